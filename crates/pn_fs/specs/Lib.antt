@@ -1,0 +1,5 @@
+pub mod Tree
+pub mod Seen
+pub mod Calls
+pub mod Pieces
+pub mod Takes

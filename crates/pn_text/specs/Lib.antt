@@ -1,0 +1,5 @@
+pub mod Path
+pub mod Faults
+pub mod Name
+pub mod NameFaults
+pub mod Causes
