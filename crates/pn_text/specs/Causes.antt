@@ -1,5 +1,5 @@
 -- Counts of faults, and what an answer for a fault rests on.
-use Rattle.std.specs.Prelude.{◌≡◌, ℕ, ◌+◌, ◌-◌, ◌^◌, ◌≤◌, min, Result, IsErrOf}
+use Rattle.std.specs.Prelude.{ℕ, ◌+◌, ◌-◌, ◌^◌, ◌≤◌, min, Result, IsErrOf}
 use Rattle.pn_text.specs.declared.fault.DevFault.{DevFault}
 use Rattle.pn_text.specs.declared.fault.DevFault.TheVariants.{Failed}
 

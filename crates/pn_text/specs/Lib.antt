@@ -3,3 +3,4 @@ pub mod Faults
 pub mod Name
 pub mod NameFaults
 pub mod Causes
+pub mod Relative
