@@ -3,3 +3,10 @@ pub mod Seen
 pub mod Calls
 pub mod Pieces
 pub mod Takes
+pub mod Bodies
+pub mod Nodes
+pub mod Names
+pub mod Fresh
+pub mod Told
+pub mod Turns
+pub mod Made
