@@ -1,0 +1,5 @@
+pub mod Find
+pub mod Rows
+pub mod LinkRows
+pub mod Plan
+pub mod Finds
