@@ -1,0 +1,26 @@
+-- Dependencies as names with specifiers.
+use Rattle.std.specs.Prelude.{ℕ, List, Bool, false, not, Option, Some, None, map, filter}
+use Rattle.std.specs.Cmp.Lexicographic.{slice_cmp}
+use Rattle.std.specs.List.Sorted.{IsStrictlySortedBy}
+use Rattle.std.specs.Ordering.{nat_cmp}
+use Rattle.std.specs.Str.{bytes_eq}
+
+-- a name, and the specifier under it
+abbrev pub Pair : Type 0
+Pair = List ℕ × List ℕ
+
+abbrev pub names : List Pair → List (List ℕ)
+names pairs = map (λ (e : Pair). e.0) pairs
+
+-- byte order of names, no name twice
+abbrev pub IsRising : List Pair → Type 0
+IsRising pairs = IsStrictlySortedBy (slice_cmp nat_cmp) (names pairs)
+
+-- whether a name is that of the manifest itself
+abbrev pub is_own : Option (List ℕ) → List ℕ → Bool
+is_own None name = false
+is_own (Some own) name = bytes_eq own name
+
+-- those under another name
+abbrev pub but_own : Option (List ℕ) → List Pair → List Pair
+but_own own pairs = filter (λ (e : Pair). not (is_own own e.0)) pairs

@@ -1,0 +1,47 @@
+// Why bytes are no manifest.
+ghost use Rattle.std.specs.Prelude.{Some, []};
+ghost use Rattle.pn_manifest.specs.Refusals.{IsWrong};
+
+use pn_text::{Memory, Text};
+use std::alloc::{AllocFailed, Global};
+
+/// Why bytes are no manifest: no JSON object, a wrong field and the key in it (empty where the field
+/// itself is wrong), or no memory.
+#[derive(Drop)]
+pub enum ManifestFault {
+    NotJson,
+    BadField(Text, Text),
+    Memory,
+}
+
+/// The refusal for a field and a key.
+pub fn bad_field(alloc: Global, field: &str, key: &str) -> ManifestFault
+    ensures { IsWrong (Some (field.now, key.now)) result }
+{
+    match (Text::of(alloc, field), Text::of(alloc, key)) {
+        (Ok(field), Ok(key)) => ManifestFault::BadField(field, key),
+        _ => ManifestFault::Memory,
+    }
+}
+
+impl From<Memory> for ManifestFault {
+    ghost use Rattle.std.specs.Prelude.{◌≡◌};
+    ghost use Rattle.pn_manifest.specs.declared.fault.ManifestFault.TheVariants.{Memory as no_memory};
+
+    ghost from_gives = { λ _ e. e ≡ no_memory };
+
+    fn from(_: Memory) -> Self {
+        ManifestFault::Memory
+    }
+}
+
+impl<T: Drop> From<AllocFailed<T>> for ManifestFault {
+    ghost use Rattle.std.specs.Prelude.{◌≡◌};
+    ghost use Rattle.pn_manifest.specs.declared.fault.ManifestFault.TheVariants.{Memory as no_memory};
+
+    ghost from_gives = { λ _ e. e ≡ no_memory };
+
+    fn from(_: AllocFailed<T>) -> Self {
+        ManifestFault::Memory
+    }
+}
