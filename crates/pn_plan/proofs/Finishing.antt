@@ -1,0 +1,114 @@
+-- Lemmas on marks that become entries one by one.
+use Rattle.std.proofs.Common.{◌≡◌, ℕ, zero, suc, ◌+◌, ◌<◌, ◌≤◌, ◌⊎◌, inl, inr, List, [], ◌∷◌, ◌++◌, map, length, get_or, refl, sym, ap, ◌∙◌, subst, append_assoc, arith, true, false, Some}
+use Rattle.std.specs.Prelude.{IsTrue, is_some, String, string_bytes, if◌then◌else◌}
+use Rattle.std.specs.List.{Contains}
+use Rattle.std.specs.Map.{lookup}
+use Rattle.std.specs.BTreeMap.{BTreeMap, is_at}
+use Rattle.std.proofs.lemmas.List.{map-append}
+use Rattle.std.proofs.lemmas.List.Elements.{Contains-push_cases}
+use Rattle.std.proofs.lemmas.Map.Text.{is_eq-slice_cmp, text_cmp}
+use Rattle.std.proofs.lemmas.Slice.Eq.{bytes_eq-Decides}
+use Rattle.pn_text.specs.Path.{Path, is_path, text_below}
+use Rattle.pn_plan.specs.declared.planned.What.{What}
+use Rattle.pn_plan.specs.declared.planned.Planned.{Planned}
+use Rattle.pn_plan.specs.declared.fault.DraftFault.{DraftFault}
+use Rattle.pn_plan.specs.declared.fault.DraftFault.TheVariants.{TooLong, Memory}
+use Rattle.pn_plan.specs.Sheets.{sheet, texts, IsWhole}
+use Rattle.pn_plan.specs.Finished.{IsPathRefused, placed, Finishes, FinishRefused}
+
+pub contains_tail : {X : Type 0} (y : X) (xs : List X) (x : X) → Contains xs x → Contains (y ∷ xs) x
+contains_tail y xs x h = (h.0 + 1, omega (arith, h.1), let s : h.0 + 1 ≡ suc h.0 = omega arith in ap (λ k. get_or (y ∷ xs) k x) s ∙ h.2)
+
+pub Contains-cons_cases : {X : Type 0} (y : X) (xs : List X) (x : X) → Contains (y ∷ xs) x → (y ≡ x) ⊎ Contains xs x
+Contains-cons_cases y xs x h = at_place h.0 h.1 h.2 where
+  at_place : (k : ℕ) → k < length (y ∷ xs) → get_or (y ∷ xs) k x ≡ x → (y ≡ x) ⊎ Contains xs x
+  at_place zero l e = inl e
+  at_place (suc k) l e = inr (k, omega arith, e)
+
+-- the first marks are entries
+pub record IsPartDone {A : Type 0} (marks left : List (String A × What)) (entries : List Planned) : Type 0 where
+  pub done : List (String A × What)
+  pub split : marks ≡ done ++ left
+  pub finishes : Finishes done entries
+
+pub starts : {A : Type 0} (marks left : List (String A × What)) (entries : List Planned) → left ≡ marks → entries ≡ [] → IsPartDone marks left entries
+starts marks left entries all none = record {
+  done = [];
+  split = sym all;
+  finishes = record {
+    same = ap placed none;
+    good = λ e h. absurd (omega (arith, ap length none, h.1));
+    short = λ e h. absurd (omega (arith, ap length none, h.1));
+  };
+}
+
+-- a text is found where an entry has it
+pub found : {A : Type 0} (done : List (String A × What)) (e : String A × What) (rest : List (String A × What)) → is_some (lookup (is_at (text_cmp (string_bytes e.0))) (done ++ e ∷ rest)) ≡ true
+found [] e rest =
+    ap (λ b. is_some (if b then Some e.1 else lookup (is_at (text_cmp (string_bytes e.0))) rest)) (is_eq-slice_cmp (string_bytes e.0) (string_bytes e.0) ∙ (bytes_eq-Decides (string_bytes e.0) (string_bytes e.0)).1 refl)
+found (d ∷ done) e rest = elim (is_at (text_cmp (string_bytes e.0)) d.0) as (λ b. is_some (if b then Some d.1 else lookup (is_at (text_cmp (string_bytes e.0))) (done ++ e ∷ rest)) ≡ true) [
+  | true ↦ refl
+  | false ↦ found done e rest
+]
+
+pub key_path : {A : Type 0} (m : Path) (marks : BTreeMap (String A) What) (done rest : List (String A × What)) (e : String A × What) → IsWhole m (sheet marks) → marks.entries ≡ done ++ e ∷ rest
+    → (q : Path) × IsTrue (is_path q) × (string_bytes e.0 ≡ text_below q)
+key_path m marks done rest e whole split = whole.keys (string_bytes e.0) (ap (λ es. is_some (lookup (is_at (text_cmp (string_bytes e.0))) es)) split ∙ found done e rest)
+
+pub next_key : {A : Type 0} (marks : BTreeMap (String A) What) (left rest : List (String A × What)) (e : String A × What) (entries : List Planned) → (w : (m : Path) × IsWhole m (sheet marks)) → left ≡ e ∷ rest → IsPartDone marks.entries left entries
+    → (q : Path) × IsTrue (is_path q) × (string_bytes e.0 ≡ text_below q)
+next_key marks left rest e entries w is h = key_path w.0 marks h.done rest e w.1 (h.split ∙ ap (λ l. h.done ++ l) is)
+
+pub one_more : {A : Type 0} (marks left rest : List (String A × What)) (e : String A × What) (entries new : List Planned) (p : Planned) → IsPartDone marks left entries → left ≡ e ∷ rest → new ≡ entries ++ p ∷ []
+    → IsTrue (is_path p.path) → string_bytes e.0 ≡ text_below p.path → length (string_bytes e.0) ≤ 4096 → p.what ≡ e.1 → IsPartDone marks rest new
+one_more {A} marks left rest e entries new p h is push good spelled short what = record {
+  done = h.done ++ e ∷ [];
+  split = h.split ∙ ap (λ l. h.done ++ l) is ∙ sym (append_assoc h.done (e ∷ []) rest);
+  finishes = subst (Finishes (h.done ++ e ∷ [])) (sym push) (record {
+    same = map-append (λ (x : Planned). (text_below x.path, x.what)) entries (p ∷ [])
+        ∙ ap (λ l. l ++ (text_below p.path, p.what) ∷ []) h.finishes.same
+        ∙ ap (λ x. texts h.done ++ x ∷ []) (let a : (text_below p.path, p.what) ≡ (string_bytes e.0, e.1) = cc in a)
+        ∙ sym (map-append (λ (x : String A × What). (string_bytes x.0, x.1)) h.done (e ∷ []));
+    good = λ x k. elim (Contains-push_cases entries p x k) [ inl old ↦ h.finishes.good x old | inr same ↦ subst (λ (y : Planned). IsTrue (is_path y.path)) same good ];
+    short = λ x k. elim (Contains-push_cases entries p x k) [
+      | inl old ↦ h.finishes.short x old
+      | inr same ↦ subst (λ (y : Planned). length (text_below y.path) ≤ 4096) same (omega (arith, ap length spelled, short))
+    ];
+  });
+}
+
+-- an element of a mapped list comes from one
+pub from_mapped : {X Y : Type 0} (f : X → Y) (xs : List X) (y : Y) → Contains (map f xs) y → (x : X) × Contains xs x × (f x ≡ y)
+from_mapped f [] y h = absurd (omega (arith, h.1))
+from_mapped f (x ∷ xs) y h = elim (Contains-cons_cases (f x) (map f xs) y h) [
+  | inl e ↦ (x, (0, omega arith, refl), e)
+  | inr k ↦ let r = from_mapped f xs y k in (r.0, contains_tail x xs r.0 r.1, r.2)
+]
+
+pub into_mapped : {X Y : Type 0} (f : X → Y) (xs : List X) (x : X) → Contains xs x → Contains (map f xs) (f x)
+into_mapped f [] x h = absurd (omega (arith, h.1))
+into_mapped f (y ∷ xs) x h = elim (Contains-cons_cases y xs x h) [
+  | inl e ↦ (0, omega arith, ap f e)
+  | inr k ↦ contains_tail (f y) (map f xs) (f x) (into_mapped f xs x k)
+]
+
+all_short : {A : Type 0} (done : List (String A × What)) (entries : List Planned) → Finishes done entries → (e : String A × What) → Contains done e → length (string_bytes e.0) ≤ 4096
+all_short {A} done entries h e k =
+    let t : List ℕ × What = (string_bytes e.0, e.1) in
+    let m : Contains (placed entries) t = subst (λ l. Contains l t) (sym h.same) (into_mapped (λ (x : String A × What). let p : List ℕ × What = (string_bytes x.0, x.1) in p) done e k) in
+    let r = from_mapped (λ (x : Planned). let p : List ℕ × What = (text_below x.path, x.what) in p) entries t m in
+    omega (arith, ap (λ (p : List ℕ × What). length p.0) r.2, h.short r.0 r.1)
+
+-- the first mark that is refused
+pub first_refused : {A : Type 0} (marks left rest : List (String A × What)) (e : String A × What) (entries : List Planned) (text : List ℕ) (fault : DraftFault) → IsPartDone marks left entries → left ≡ e ∷ rest
+    → text ≡ string_bytes e.0 → IsPathRefused text fault → FinishRefused marks fault
+first_refused marks left rest e entries text (TooLong n) h is same refused = record {
+  before = h.done;
+  mark = e;
+  after = rest;
+  split = h.split ∙ ap (λ l. h.done ++ l) is;
+  size = refused.0 ∙ ap length same;
+  long = omega (arith, refused.0, refused.1);
+  first = λ f k. all_short h.done entries h.finishes f k;
+}
+first_refused marks left rest e entries text Memory h is same refused = tt

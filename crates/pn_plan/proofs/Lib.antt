@@ -1,0 +1,11 @@
+pub mod Marked
+pub mod Climbing
+pub mod Raising
+pub mod Drawn
+pub mod Drawings
+pub mod Finishing
+pub mod Texts
+pub mod Orders
+pub mod Outcome
+pub mod Writable
+pub mod Leaves
