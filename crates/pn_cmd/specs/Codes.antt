@@ -1,0 +1,16 @@
+-- The exit status of each way to end.
+use Rattle.std.specs.Prelude.{ℕ}
+use Rattle.pn_cmd.specs.declared.status.Status.{Status}
+use Rattle.pn_cmd.specs.declared.status.Status.TheVariants.{Done, Memory, Usage, Manifest, NoVersion, Limit, ProjectFault, RegistryFault, SinkFault, NotYet}
+
+abbrev pub code_of : Status → ℕ
+code_of Done = 0
+code_of Memory = 1
+code_of Usage = 2
+code_of (Manifest path why) = 3
+code_of (NoVersion edge) = 6
+code_of (Limit which n) = 11
+code_of ProjectFault = 20
+code_of RegistryFault = 22
+code_of SinkFault = 23
+code_of (NotYet text) = 30

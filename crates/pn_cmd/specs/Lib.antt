@@ -1,0 +1,13 @@
+pub mod World
+pub mod Names
+pub mod Entries
+pub mod Codes
+pub mod Texts
+pub mod Refuses
+pub mod Standing
+pub mod Manifests
+pub mod Needs
+pub mod Plans
+pub mod Reports
+pub mod Order
+pub mod Causes

@@ -1,0 +1,48 @@
+-- What is told of a status.
+use Rattle.std.specs.Prelude.{◌≡◌, ℕ, List, [], ◌++◌, codes}
+use Rattle.std.specs.Fmt.{decimal}
+use Rattle.pn_text.specs.Causes.{Rose}
+use Rattle.pn_text.specs.declared.ids.Edge.{Edge}
+use Rattle.pn_fs.specs.Seen.{Taken}
+use Rattle.pn_fs.specs.Takes.{told_more}
+use Rattle.pn_cmd.specs.declared.status.ManifestWhy.{ManifestWhy}
+use Rattle.pn_cmd.specs.declared.status.ManifestWhy.TheVariants.{Missing, NotJson, BadField}
+use Rattle.pn_cmd.specs.declared.status.Which.{Which}
+use Rattle.pn_cmd.specs.declared.status.Which.TheVariants.{Packages, File, Text, Path, Entries}
+use Rattle.pn_cmd.specs.declared.status.Status.{Status}
+use Rattle.pn_cmd.specs.declared.status.Status.TheVariants.{Done, Memory, Usage, Manifest, NoVersion, Limit, ProjectFault, RegistryFault, SinkFault, NotYet}
+
+abbrev pub why_text : ManifestWhy → List ℕ
+why_text Missing = codes "missing\n"
+why_text NotJson = codes "not JSON\n"
+why_text (BadField f k) = codes "bad field " ++ f ++ codes " " ++ k ++ codes "\n"
+
+abbrev pub which_text : Which → List ℕ
+which_text Packages = codes "packages "
+which_text File = codes "file "
+which_text Text = codes "text "
+which_text Path = codes "path "
+which_text Entries = codes "entries "
+
+abbrev pub edge_text : Edge → List ℕ
+edge_text e = e.from ++ codes " needs " ++ e.alias ++ codes "@" ++ e.specifier ++ codes "\n"
+
+-- the line of each refusal
+abbrev pub status_line : Status → List ℕ
+status_line Done = []
+status_line Memory = codes "pnpm-rs: out of memory\n"
+status_line Usage = codes "pnpm-rs: usage: install\n"
+status_line (Manifest path why) = codes "pnpm-rs: manifest: " ++ path ++ codes ": " ++ why_text why
+status_line (NoVersion edge) = codes "pnpm-rs: no version: " ++ edge_text edge
+status_line (Limit which n) = codes "pnpm-rs: limit: " ++ which_text which ++ decimal n ++ codes "\n"
+status_line ProjectFault = codes "pnpm-rs: project fault\n"
+status_line RegistryFault = codes "pnpm-rs: registry fault\n"
+status_line SinkFault = codes "pnpm-rs: output fault\n"
+status_line (NotYet text) = codes "pnpm-rs: not yet: " ++ text ++ codes "\n"
+
+-- The line of the status was taken, and nothing where the run is done, unless a fault rose or there
+-- was no memory.
+abbrev pub Tells : Taken → Taken → Status → Type 0
+Tells old new Done = new ≡ old
+Tells old new Memory = Unit {0}
+Tells old new s = (Rose old.faults new.faults → ⊥) → new.bytes ≡ told_more old.bytes (status_line s)

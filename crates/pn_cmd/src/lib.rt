@@ -1,0 +1,22 @@
+//! The command that installs a project: the points of a run in their order, and how it ends.
+//!
+//! `run` answers the first refusal in the order, and each answer has its cause as a clause. Up to the
+//! writing nothing of the project differs; while it is written only what lies in `node_modules` does.
+#![tactic(auto)]
+
+mod check;
+mod entry;
+mod faults;
+mod manifest;
+mod plan;
+mod standing;
+mod status;
+#[cfg(test)]
+mod tests;
+mod text;
+mod top;
+mod words;
+
+pub use status::{ManifestWhy, Status, Which};
+pub use text::tell;
+pub use top::{order_law, run};

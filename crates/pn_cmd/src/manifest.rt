@@ -1,0 +1,94 @@
+// The point of the project's manifest.
+ghost use Rattle.std.specs.Prelude.{◌≡◌, ◌∷◌, ℕ, List, IfOk, IfErr, IfSome};
+ghost use Rattle.pn_fs.specs.Seen.{Keeps};
+ghost use Rattle.pn_manifest.specs.Refusals.{ManifestRefused};
+ghost use Rattle.pn_cmd.specs.Names.{package_name};
+ghost use Rattle.pn_cmd.specs.Refuses.{ReadsProject, Computes};
+ghost use Rattle.pn_cmd.specs.Manifests.{NoManifest, IsFound, IsText, FoundIn, BytesRefused};
+
+use crate::entry::{EntryFault, entry};
+use crate::status::{ManifestWhy, Status, Which};
+use pn_fs::ReadFs;
+use pn_manifest::{Manifest, ManifestFault};
+use pn_read::{SmallFault, read_small};
+use pn_text::{AbsPath, Text};
+use std::alloc::Global;
+
+const TEXT_LIMIT: u64 = 16777216;
+
+/// Reads the manifest in the project's folder.
+pub fn read_manifest<P: ReadFs>(
+    alloc: Global,
+    folder: &AbsPath,
+    project: &mut P,
+) -> Result<Manifest, Status>
+    ensures found { IfOk result (IsFound (P.seen project.old).tree (package_name ∷ folder.now)) }
+    ensures refused { IfErr result (ReadsProject (NoManifest (package_name ∷ folder.now) (P.seen project.old).tree) (P.seen project.old) (P.seen project.new)) }
+    ensures kept { Keeps (P.seen project.old) (P.seen project.new) }
+{
+    let path = match entry(alloc, folder, "package.json") {
+        Ok(path) => path,
+        Err(EntryFault::Long(length)) => return Err(Status::Limit(Which::Path, length)),
+        Err(EntryFault::Memory) => return Err(Status::Memory),
+    };
+    let bytes = match read_text(alloc, &path, project) {
+        Ok(bytes) => bytes,
+        Err(status) => return Err(status),
+    };
+    parse(alloc, &path, bytes.as_slice())
+}
+
+// Reads a file of the project within the limit.
+fn read_text<P: ReadFs>(alloc: Global, path: &AbsPath, project: &mut P) -> Result<Vec<u8>, Status>
+    ensures found { IfOk result (λ v. IfSome (P.seen project.old).tree (λ t. IsText (t path.now) v.items)) }
+    ensures refused { IfErr result (ReadsProject (NoManifest path.now (P.seen project.old).tree) (P.seen project.old) (P.seen project.new)) }
+    ensures kept { Keeps (P.seen project.old) (P.seen project.new) }
+{
+    match read_small(alloc, project, path, TEXT_LIMIT) {
+        Ok(bytes) => Ok(bytes),
+        Err(SmallFault::Missing) => {
+            let text = Text::of(alloc, path.as_str())?;
+            Err(Status::Manifest(text, ManifestWhy::Missing))
+        }
+        Err(SmallFault::TooLarge(length)) => Err(Status::Limit(Which::Text, length)),
+        Err(SmallFault::Fault) => Err(Status::ProjectFault),
+        Err(SmallFault::Memory) => Err(Status::Memory),
+    }
+}
+
+// The manifest that the bytes say.
+fn parse(alloc: Global, path: &AbsPath, bytes: &[u8]) -> Result<Manifest, Status>
+    ensures found { IfOk result (FoundIn bytes.now) }
+    ensures refused { IfErr result (Computes (BytesRefused path.now bytes.now)) }
+{
+    let manifest = match Manifest::read(alloc, bytes) {
+        Ok(manifest) => manifest,
+        Err(fault) => return Err(refusal(alloc, path, fault)),
+    };
+    if manifest.dev {
+        let key = Text::of(alloc, "devDependencies")?;
+        return Err(Status::NotYet(key));
+    }
+    match &manifest.later {
+        Some(key) => {
+            let key = key.copy(alloc)?;
+            Err(Status::NotYet(key))
+        }
+        None => Ok(manifest),
+    }
+}
+
+// The status for a refused manifest.
+fn refusal(alloc: Global, path: &AbsPath, fault: ManifestFault) -> Status
+    ensures { (bytes : List ℕ) → ManifestRefused bytes fault → Computes (BytesRefused path.now bytes) result }
+{
+    let why = match fault {
+        ManifestFault::NotJson => ManifestWhy::NotJson,
+        ManifestFault::BadField(field, key) => ManifestWhy::BadField(field, key),
+        ManifestFault::Memory => return Status::Memory,
+    };
+    match Text::of(alloc, path.as_str()) {
+        Ok(text) => Status::Manifest(text, why),
+        Err(_) => Status::Memory,
+    }
+}

@@ -1,0 +1,42 @@
+// The points at which nothing is to stand.
+ghost use Rattle.std.specs.Prelude.{◌≡◌, ◌≤◌, ◌∷◌, length, IsTrue, OnOk, IfOk, IfErr};
+ghost use Rattle.pn_text.specs.Path.{is_part};
+ghost use Rattle.pn_fs.specs.Seen.{Keeps};
+ghost use Rattle.pn_cmd.specs.Refuses.{ReadsProject};
+ghost use Rattle.pn_cmd.specs.Standing.{NothingStands, Stands};
+
+use crate::entry::{EntryFault, entry};
+use crate::status::{Status, Which};
+use pn_fs::{Kind, ReadFs};
+use pn_text::{AbsPath, DevFault, Text};
+use std::alloc::Global;
+
+/// An entry of a folder at which nothing stands, or it is refused.
+pub fn nothing_stands<P: ReadFs>(
+    alloc: Global,
+    folder: &AbsPath,
+    part: &str,
+    project: &mut P,
+) -> Result<AbsPath, Status>
+    requires part { IsTrue (is_part part.now) }
+    requires short { length part.now ≤ 255 }
+    ensures path { IfOk result (λ p. p ≡ part.now ∷ folder.now) }
+    ensures passed { OnOk result (NothingStands (P.seen project.old).tree (part.now ∷ folder.now)) }
+    ensures refused { IfErr result (ReadsProject (Stands (part.now ∷ folder.now) (P.seen project.old).tree) (P.seen project.old) (P.seen project.new)) }
+    ensures kept { Keeps (P.seen project.old) (P.seen project.new) }
+{
+    let path = match entry(alloc, folder, part) {
+        Ok(path) => path,
+        Err(EntryFault::Long(length)) => return Err(Status::Limit(Which::Path, length)),
+        Err(EntryFault::Memory) => return Err(Status::Memory),
+    };
+    match project.kind(&path) {
+        Ok(Kind::Absent) => Ok(path),
+        Ok(_) => {
+            let text = Text::of(alloc, path.as_str())?;
+            Err(Status::NotYet(text))
+        }
+        Err(DevFault::Failed) => Err(Status::ProjectFault),
+        Err(DevFault::Memory) => Err(Status::Memory),
+    }
+}

@@ -1,0 +1,69 @@
+// How a run ends.
+ghost use Rattle.std.specs.Prelude.{◌≡◌};
+ghost use Rattle.pn_cmd.specs.Codes.{code_of};
+
+use pn_text::{Edge, Text};
+
+/// How a run ends: done, or the first refusal in the order of an install.
+#[derive(Drop)]
+pub enum Status {
+    /// The command did all.
+    Done,
+    /// There was no memory.
+    Memory,
+    /// The words are no command's.
+    Usage,
+    /// The named file isn't in its grammar or is missing.
+    Manifest(Text, ManifestWhy),
+    /// The edge's package isn't in the registry.
+    NoVersion(Edge),
+    /// The count is above the stated number.
+    Limit(Which, u64),
+    /// A call of the project's tree failed.
+    ProjectFault,
+    /// A call of the registry's tree failed.
+    RegistryFault,
+    /// The output took the report in part or not at all.
+    SinkFault,
+    /// The path, field or specifier is valid and isn't built yet.
+    NotYet(Text),
+}
+
+/// What is wrong with a manifest: a field and a key in it, which is empty for the field itself.
+#[derive(Drop)]
+pub enum ManifestWhy {
+    Missing,
+    NotJson,
+    BadField(Text, Text),
+}
+
+/// What is limited: 16,384 packages, 268,435,456 bytes of a package's file, 16,777,216 bytes of a
+/// manifest, 4,096 bytes of a path, 4,194,304 entries of a package.
+#[derive(Clone, Copy, Debug, PartialEq, Eq)]
+pub enum Which {
+    Packages,
+    File,
+    Text,
+    Path,
+    Entries,
+}
+
+impl Status {
+    /// The exit status of the process.
+    pub fn code(&self) -> u8
+        ensures { result ≡ code_of self.now }
+    {
+        match self {
+            Status::Done => 0,
+            Status::Memory => 1,
+            Status::Usage => 2,
+            Status::Manifest(_, _) => 3,
+            Status::NoVersion(_) => 6,
+            Status::Limit(_, _) => 11,
+            Status::ProjectFault => 20,
+            Status::RegistryFault => 22,
+            Status::SinkFault => 23,
+            Status::NotYet(_) => 30,
+        }
+    }
+}

@@ -1,0 +1,131 @@
+// What is told of a status.
+ghost use Rattle.std.specs.Prelude.{◌≡◌, ◌⊎◌, ◌≢◌, IfOk, string_bytes, codes, true, ◌++◌};
+ghost use Rattle.std.specs.Fmt.{decimal};
+ghost use Rattle.pn_text.specs.Causes.{Rose};
+ghost use Rattle.pn_fs.specs.Takes.{told_more};
+ghost use Rattle.pn_cmd.specs.Texts.{status_line, why_text, which_text, edge_text, Tells};
+
+use crate::status::{ManifestWhy, Status, Which};
+use pn_fs::Sink;
+use pn_text::{DevFault, Edge};
+use std::alloc::{AllocError, Global};
+
+/// Tells a refusal. It answers the status, or Memory where there was none to tell a refusal.
+pub fn tell<E: Sink>(alloc: Global, status: Status, err: &mut E) -> Status
+    ensures same { (result ≡ status) ⊎ ((result ≡ Status.Memory) × (status ≢ Status.Done)) }
+    ensures told { Tells (E.seen err.old) (E.seen err.new) result }
+{
+    if let Status::Done = &status {
+        return status;
+    }
+    if tell_line(alloc, &status, err) {
+        status
+    } else {
+        Status::Memory
+    }
+}
+
+// Whether there was memory to tell a refusal.
+fn tell_line<E: Sink>(alloc: Global, status: &Status, err: &mut E) -> bool
+    ensures { result ≡ true → (Rose (E.seen err.old).faults (E.seen err.new).faults → ⊥) → (E.seen err.new).bytes ≡ told_more (E.seen err.old).bytes (status_line status.now) }
+{
+    let Ok(text) = line_of(alloc, status) else {
+        let _ = err.write(b"pnpm-rs: out of memory\n");
+        return false;
+    };
+    match err.write(text.as_bytes()) {
+        Ok(()) => true,
+        Err(DevFault::Failed) => true,
+        Err(DevFault::Memory) => false,
+    }
+}
+
+fn line_of(alloc: Global, status: &Status) -> Result<String, AllocError>
+    ensures { IfOk result (λ s. string_bytes s ≡ status_line status.now) }
+{
+    match status {
+        Status::Done => Ok(String::new(alloc)),
+        Status::Memory => String::from_str(alloc, "pnpm-rs: out of memory\n"),
+        Status::Usage => String::from_str(alloc, "pnpm-rs: usage: install\n"),
+        Status::Manifest(path, why) => manifest_line(alloc, path.as_str(), why),
+        Status::NoVersion(edge) => edge_line(alloc, edge),
+        Status::Limit(which, count) => limit_line(alloc, *which, *count),
+        Status::ProjectFault => String::from_str(alloc, "pnpm-rs: project fault\n"),
+        Status::RegistryFault => String::from_str(alloc, "pnpm-rs: registry fault\n"),
+        Status::SinkFault => String::from_str(alloc, "pnpm-rs: output fault\n"),
+        Status::NotYet(text) => {
+            let text = text.as_str();
+            format!(in alloc; "pnpm-rs: not yet: {text}\n")
+        }
+    }
+}
+
+fn manifest_line(alloc: Global, path: &str, why: &ManifestWhy) -> Result<String, AllocError>
+    ensures { IfOk result (λ s. string_bytes s ≡ codes "pnpm-rs: manifest: " ++ path.now ++ codes ": " ++ why_text why.now) }
+{
+    let why = why_line(alloc, why)?;
+    let mut line = String::from_str(alloc, "pnpm-rs: manifest: ")?;
+    line.push_str(path)?;
+    line.push_str(": ")?;
+    line.push_str(why.as_str())?;
+    Ok(line)
+}
+
+fn why_line(alloc: Global, why: &ManifestWhy) -> Result<String, AllocError>
+    ensures { IfOk result (λ s. string_bytes s ≡ why_text why.now) }
+{
+    match why {
+        ManifestWhy::Missing => String::from_str(alloc, "missing\n"),
+        ManifestWhy::NotJson => String::from_str(alloc, "not JSON\n"),
+        ManifestWhy::BadField(field, key) => bad_field_line(alloc, field.as_str(), key.as_str()),
+    }
+}
+
+fn bad_field_line(alloc: Global, field: &str, key: &str) -> Result<String, AllocError>
+    ensures { IfOk result (λ s. string_bytes s ≡ codes "bad field " ++ field.now ++ codes " " ++ key.now ++ codes "\n") }
+{
+    let mut line = String::from_str(alloc, "bad field ")?;
+    line.push_str(field)?;
+    line.push_str(" ")?;
+    line.push_str(key)?;
+    line.push_str("\n")?;
+    Ok(line)
+}
+
+fn edge_line(alloc: Global, edge: &Edge) -> Result<String, AllocError>
+    ensures { IfOk result (λ s. string_bytes s ≡ codes "pnpm-rs: no version: " ++ edge_text edge.now) }
+{
+    let edge = edge_words(
+        alloc,
+        edge.from.as_str(),
+        edge.alias.as_str(),
+        edge.specifier.as_str(),
+    )?;
+    let mut line = String::from_str(alloc, "pnpm-rs: no version: ")?;
+    line.push_str(edge.as_str())?;
+    Ok(line)
+}
+
+fn edge_words(alloc: Global, from: &str, alias: &str, specifier: &str) -> Result<String, AllocError>
+    ensures { IfOk result (λ s. string_bytes s ≡ from.now ++ codes " needs " ++ alias.now ++ codes "@" ++ specifier.now ++ codes "\n") }
+{
+    let mut line = String::from_str(alloc, from)?;
+    line.push_str(" needs ")?;
+    line.push_str(alias)?;
+    line.push_str("@")?;
+    line.push_str(specifier)?;
+    line.push_str("\n")?;
+    Ok(line)
+}
+
+fn limit_line(alloc: Global, which: Which, count: u64) -> Result<String, AllocError>
+    ensures { IfOk result (λ s. string_bytes s ≡ codes "pnpm-rs: limit: " ++ which_text which ++ decimal count ++ codes "\n") }
+{
+    match which {
+        Which::Packages => format!(in alloc; "pnpm-rs: limit: packages {count}\n"),
+        Which::File => format!(in alloc; "pnpm-rs: limit: file {count}\n"),
+        Which::Text => format!(in alloc; "pnpm-rs: limit: text {count}\n"),
+        Which::Path => format!(in alloc; "pnpm-rs: limit: path {count}\n"),
+        Which::Entries => format!(in alloc; "pnpm-rs: limit: entries {count}\n"),
+    }
+}

@@ -1,0 +1,17 @@
+-- The real outside tells nothing of what it holds.
+use Rattle.std.specs.Prelude.{◌≡◌, ℕ, [], Some, None}
+use Rattle.pn_fs.specs.Tree.{Tree, IsTree, IsFinite}
+use Rattle.pn_fs.specs.Seen.{Seen, Taken}
+
+-- only the count of faults
+abbrev pub untold_tree : ℕ → Seen
+untold_tree faults = record { tree = None; touched = []; faults = faults }
+
+abbrev pub untold_bytes : ℕ → Taken
+untold_bytes faults = record { bytes = None; faults = faults }
+
+pub no_tree : (t : Tree) → None ≡ Some t → IsTree t
+no_tree t e = absurd (cc)
+
+pub no_finite_tree : (t : Tree) → None ≡ Some t → IsFinite t
+no_finite_tree t e = absurd (cc)

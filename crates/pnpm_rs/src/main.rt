@@ -1,0 +1,58 @@
+//! The program: makes the real objects, runs the words, and ends with the status.
+#![tactic(auto)]
+
+mod faults;
+mod names;
+mod places;
+mod real_fs;
+mod real_sink;
+
+use crate::places::{current_folder, registry_folder, words};
+use crate::real_fs::RealFs;
+use crate::real_sink::RealSink;
+use pn_cmd::{Status, run, tell};
+use pn_text::AbsPath;
+use std::process::ExitCode;
+
+fn main(rt: HostRuntime) -> ExitCode {
+    ExitCode::from(start(rt).code())
+}
+
+// Runs the words in the current folder.
+fn start(rt: HostRuntime) -> Status {
+    let alloc = rt.alloc();
+    let mut err = RealSink::new(rt.stderr());
+    let words = match words(&rt) {
+        Ok(words) => words,
+        Err(status) => return tell(alloc, status, &mut err),
+    };
+    let place = match current_folder(&rt) {
+        Ok(place) => place,
+        Err(status) => return tell(alloc, status, &mut err),
+    };
+    let (root, folder) = match folders(&rt, &place) {
+        Ok(folders) => folders,
+        Err(status) => return tell(alloc, status, &mut err),
+    };
+    let mut out = RealSink::new(rt.stdout());
+    let mut project = RealFs::new(rt, root);
+    let mut registry = RealFs::new(rt, folder);
+    run(
+        alloc,
+        words.as_slice(),
+        &place,
+        &mut project,
+        &mut registry,
+        &mut out,
+        &mut err,
+    )
+}
+
+// The folders that are `/` of the project's and the registry's file system.
+fn folders(rt: &HostRuntime, place: &AbsPath) -> Result<(AbsPath, AbsPath), Status> {
+    let Ok(root) = AbsPath::read(rt.alloc(), "/") else {
+        return Err(Status::Memory);
+    };
+    let folder = registry_folder(rt, place)?;
+    Ok((root, folder))
+}
