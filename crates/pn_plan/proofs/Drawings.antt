@@ -1,6 +1,6 @@
 -- Lemmas on the drawing that a draft's marks show.
 use Rattle.std.proofs.Common.{◌≡◌, ℕ, ◌⊎◌, inl, List, [], ◌∷◌, ◌++◌, refl, sym, ap, ◌∙◌, subst, append_assoc, append-nil, Bool, true, false, Some, None}
-use Rattle.std.specs.Prelude.{Option, IsTrue, IsSome, is_some, String, string_bytes, ◌||◌, if◌then◌else◌}
+use Rattle.std.specs.Prelude.{Option, IsTrue, IsSome, is_some, String, string_bytes, if◌then◌else◌}
 use Rattle.std.specs.Map.{update, lookup}
 use Rattle.std.specs.Str.{bytes_eq}
 use Rattle.std.specs.BTreeMap.{BTreeMap, is_at}

@@ -1,8 +1,8 @@
 -- What the drawing of some leaves has at each path.
-use Rattle.std.proofs.Common.{◌≡◌, ℕ, ◌+◌, ◌<◌, ◌≤◌, ◌⊎◌, inl, inr, List, [], ◌∷◌, ◌++◌, length, refl, sym, ap, ◌∙◌, subst, append_assoc, append-nil, arith, Bool, true, false, Some, None}
-use Rattle.std.specs.Prelude.{Option, ◌↔◌, ◌&&◌, ◌||◌, if◌then◌else◌}
+use Rattle.std.proofs.Common.{◌≡◌, inl, inr, List, [], ◌∷◌, ◌++◌, length, refl, sym, ap, ◌∙◌, subst, append_assoc, append-nil, arith, true, false, Some, None}
+use Rattle.std.specs.Prelude.{Option, ◌↔◌, ◌&&◌, if◌then◌else◌}
 use Rattle.std.specs.List.{Contains}
-use Rattle.std.proofs.lemmas.List.Elements.{Contains-append_left, Contains-append_right, Contains-push, Contains-push_cases}
+use Rattle.std.proofs.lemmas.List.Elements.{Contains-append_left, Contains-push, Contains-push_cases}
 use Rattle.std.specs.Cmp.Derive.{both_true}
 use Rattle.pn_text.specs.Path.{Path, same_path}
 use Rattle.pn_text.proofs.Paths.{same_path-Decides, and_left, and_right}

@@ -9,3 +9,4 @@ pub mod Orders
 pub mod Outcome
 pub mod Writable
 pub mod Leaves
+pub mod Rooted

@@ -1,22 +1,22 @@
 -- A planned tree at and below one folder can be written where that folder's place is free.
-use Rattle.std.proofs.Common.{◌≡◌, ℕ, zero, suc, ◌+◌, ◌<◌, ◌≤◌, ◌⊎◌, inl, inr, List, [], ◌∷◌, ◌++◌, map, length, get_or, refl, sym, ap, ◌∙◌, subst, arith, Bool, true, false, Some, None}
-use Rattle.std.specs.Prelude.{Option, ◌||◌, if◌then◌else◌}
+use Rattle.std.proofs.Common.{◌≡◌, ℕ, inl, inr, List, [], ◌∷◌, ◌++◌, map, length, refl, sym, ap, ◌∙◌, subst, arith, true, false, Some, None}
+use Rattle.std.specs.Prelude.{◌||◌}
 use Rattle.std.specs.List.{Contains, AllByRecursion}
 use Rattle.std.specs.List.Sorted.{IsStrictlySortedBy}
 use Rattle.std.specs.Cmp.{nat_cmp_is}
 use Rattle.std.specs.Cmp.Lexicographic.{slice_cmp}
 use Rattle.std.specs.Ordering.{nat_cmp, ordering_then}
 use Rattle.std.specs.declared.cmp.Ordering.{Ordering}
-use Rattle.std.specs.declared.cmp.Ordering.TheVariants.{Less, Equal, Greater}
+use Rattle.std.specs.declared.cmp.Ordering.TheVariants.{Less, Equal}
 use Rattle.std.proofs.lemmas.List.Elements.{Contains-append_cases, Contains-append_right}
 use Rattle.pn_text.specs.Path.{Path, same_path, text_below, path_text}
 use Rattle.pn_text.proofs.Paths.{same_path-Decides}
-use Rattle.pn_fs.specs.Tree.{Entry, folder, Tree, IsTree, HasParent}
+use Rattle.pn_fs.specs.Tree.{folder, Tree, IsTree, HasParent}
 use Rattle.pn_plan.specs.declared.planned.What.{What}
 use Rattle.pn_plan.specs.declared.planned.What.TheVariants.{Folder}
 use Rattle.pn_plan.specs.declared.planned.Planned.{Planned}
-use Rattle.pn_plan.specs.Drawing.{is_below, is_within}
-use Rattle.pn_plan.specs.Plan.{IsRising, is_planned, Plans, HasPlannedParent, IsNext, IsWritable, IsRooted}
+use Rattle.pn_plan.specs.Drawing.{is_within}
+use Rattle.pn_plan.specs.Plan.{IsRising, is_planned, Plans, HasPlannedParent, IsWritable, IsRooted}
 use Rattle.pn_plan.proofs.Marked.{within_cases}
 use Rattle.pn_plan.proofs.Finishing.{contains_tail, Contains-cons_cases}
 use Rattle.pn_plan.proofs.Orders.{not_before_self}
