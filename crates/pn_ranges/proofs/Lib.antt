@@ -1,0 +1,12 @@
+pub mod Fronts
+pub mod Steps
+pub mod Parts
+pub mod Words
+pub mod Tails
+pub mod Partials
+pub mod Comparisons
+pub mod Pres
+pub mod Spaced
+pub mod Joins
+pub mod Sets
+pub mod LawProofs

@@ -1,0 +1,30 @@
+use Rattle.std.proofs.Common.{◌≡◌, ℕ, List, length, arith, ap, sym, ◌∙◌, false}
+use Rattle.pn_ranges.specs.Places.{fault_comparator}
+use Rattle.pn_ranges.specs.Bytes.{is_space}
+use Rattle.pn_ranges.proofs.Fronts.{behind-le, append-le}
+use Rattle.pn_ranges.proofs.Spaced.{within-wider}
+use Rattle.pn_ranges.proofs.Steps.{space_exit}
+use Rattle.pn_ranges.proofs.Comparisons.{comparator-read, plain-end, signed-lead}
+use Rattle.pn_ranges.proofs.comparator.comparator_at.Goals as goal
+
+pub returns-in_err-partial-clause-stops : goal.returns-in_err-partial-clause-stops
+returns-in_err-partial-clause-stops c = space_exit c.args.text.now (λ e. fault_comparator e c.args.text.now) _ _ c.from_residual.ensures.1
+    (λ e h. c.sign_at-sign.ensures.goes e h ∙ signed-lead e c.sign_at-sign.result.0 c.sign_at-sign.result.1.now c.behind_spaces.result.now c.is_plain-plain.result c.is_plain-plain.ensures c.behind_spaces.ensures ∙ c.in_err-partial.ensures.stops _)
+
+pub returns-clause-read : goal.returns-clause-read
+returns-clause-read c = comparator-read _ _ _ _ _ _ c.sign_at-sign.ensures.read c.sign_at-sign.ensures.longest c.behind_spaces.ensures c.in_ok-partial.ensures.read
+
+pub returns-clause-lower : goal.returns-clause-lower
+returns-clause-lower c = λ plain. plain-end _ _ _ _ _ _ c.sign_at-sign.ensures.read (sym c.is_plain-plain.ensures ∙ plain) c.behind_spaces.ensures c.in_ok-partial.ensures.read
+
+pub returns-clause-goes : goal.returns-clause-goes
+returns-clause-goes c = λ e h.
+    c.sign_at-sign.ensures.goes e h ∙ signed-lead e c.sign_at-sign.result.0 c.sign_at-sign.result.1.now c.behind_spaces.result.now c.is_plain-plain.result c.is_plain-plain.ensures c.behind_spaces.ensures ∙ c.in_ok-partial.ensures.goes _
+
+pub returns-clause-within : goal.returns-clause-within
+returns-clause-within c =
+    let read = c.sign_at-sign.ensures.read in
+    let l = ap (λ (x : List ℕ). length x) c.behind_spaces.ensures in
+    let k = behind-le is_space c.sign_at-sign.result.1.now in
+    let m = append-le c.args.text.now read.front c.sign_at-sign.result.1.now read.split in
+    within-wider c.in_ok-partial.partial c.behind_spaces.result.now c.args.text.now c.in_ok-partial.rest.now c.in_ok-partial.rest.now c.in_ok-partial.ensures.within (omega arith) (omega arith)

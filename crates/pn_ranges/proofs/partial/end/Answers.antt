@@ -1,0 +1,24 @@
+use Rattle.std.proofs.Common.{◌≡◌, ℕ, List, length, arith, ap, ◌∙◌}
+use Rattle.pn_ranges.specs.Places.{lead, first_fault}
+use Rattle.pn_ranges.specs.Bytes.{is_lead}
+use Rattle.pn_ranges.proofs.Fronts.{behind-le}
+use Rattle.pn_ranges.proofs.Spaced.{within-wider}
+use Rattle.pn_ranges.proofs.Steps.{exit_stops}
+use Rattle.pn_ranges.proofs.Partials.{led-end, lead-end}
+use Rattle.pn_ranges.proofs.partial.end.Goals as goal
+
+pub returns-in_err-read-clause-stops : goal.returns-in_err-read-clause-stops
+returns-in_err-read-clause-stops c = exit_stops (λ e. first_fault (lead e) c.args.text.now) _ _ c.from_residual.ensures.1
+    (λ e. lead-end e c.args.text.now c.behind_leads-after.result.now c.behind_leads-after.ensures ∙ c.in_err-read.ensures.stops e)
+
+pub returns-clause-read : goal.returns-clause-read
+returns-clause-read c = led-end c.args.text.now c.behind_leads-after.result.now _ _ c.behind_leads-after.ensures c.in_ok-read.ensures.read
+
+pub returns-clause-goes : goal.returns-clause-goes
+returns-clause-goes c = λ e. lead-end e c.args.text.now c.behind_leads-after.result.now c.behind_leads-after.ensures ∙ c.in_ok-read.ensures.goes e
+
+pub returns-clause-within : goal.returns-clause-within
+returns-clause-within c =
+    let l = ap (λ (x : List ℕ). length x) c.behind_leads-after.ensures in
+    let k = behind-le is_lead c.args.text.now in
+    within-wider c.in_ok-read.read c.behind_leads-after.result.now c.args.text.now c.in_ok-read.rest.now c.in_ok-read.rest.now c.in_ok-read.ensures.within (omega arith) (omega arith)

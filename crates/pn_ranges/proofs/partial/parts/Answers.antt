@@ -1,0 +1,12 @@
+use Rattle.std.proofs.Common.{◌≡◌, ◌∙◌}
+use Rattle.pn_ranges.proofs.Partials.{one-partial, two-partial, three-partial}
+use Rattle.pn_ranges.proofs.partial.parts.Goals as goal
+
+pub returns-in_default-clause-read : goal.returns-in_default-clause-read
+returns-in_default-clause-read c = one-partial _ _ _ _ c.split_at.ensures.front c.in_ok-major.ensures.read
+
+pub returns-in_default-strip-clause-read : goal.returns-in_default-strip-clause-read
+returns-in_default-strip-clause-read c = two-partial _ _ _ _ _ _ _ c.split_at.ensures.front c.in_ok-major.ensures.read c.in-Some.ensures c.in_ok-minor.ensures.read
+
+pub returns-clause-read : goal.returns-clause-read
+returns-clause-read c = three-partial _ _ _ _ _ _ _ _ _ _ _ c.in_ok-major.ensures.read c.in-Some.ensures c.in_ok-minor.ensures.read c.in-Some-strip.ensures c.in_ok-patch.ensures.read c.in_ok-pre.ensures.read

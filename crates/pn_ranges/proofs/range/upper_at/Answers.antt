@@ -1,0 +1,36 @@
+use Rattle.std.proofs.Common.{◌≡◌, ℕ, List, length, arith, ap, sym, ◌∙◌}
+use Rattle.pn_ranges.specs.Bytes.{is_space}
+use Rattle.pn_ranges.specs.Edges.{named_by}
+use Rattle.pn_ranges.specs.Places.{dash, first_fault, upper}
+use Rattle.pn_ranges.proofs.Fronts.{behind-le}
+use Rattle.pn_ranges.proofs.Spaced.{dash-lead, end-pre, exit_stop, stops-behind, upper-read, within-wider}
+use Rattle.pn_ranges.proofs.range.upper_at.Goals as goal
+
+pub returns-in_err-high-clause-stops : goal.returns-in_err-high-clause-stops
+returns-in_err-high-clause-stops c = exit_stop (first_fault dash c.args.text.now) _ _ c.from_residual.ensures.1
+    (dash-lead c.args.text.now c.behind_spaces.result.now (sym c.starts_with_space.ensures ∙ c.if-not-starts_with_space.false) c.behind_spaces.ensures ∙ c.in_err-high.ensures.stops upper)
+
+pub returns-in_err-rest-clause-stops : goal.returns-in_err-rest-clause-stops
+returns-in_err-rest-clause-stops c = exit_stop (first_fault dash c.args.text.now) _ _ c.from_residual-in_err-rest.ensures.1
+    (dash-lead c.args.text.now c.behind_spaces.result.now (sym c.starts_with_space.ensures ∙ c.if-not-starts_with_space.false) c.behind_spaces.ensures ∙ c.in_ok-high.ensures.goes upper ∙ c.in_err-rest.ensures.stops upper)
+
+pub returns-clause-read : goal.returns-clause-read
+returns-clause-read c = upper-read _ _ _ _ _ (sym c.starts_with_space.ensures ∙ c.if-not-starts_with_space.false) c.behind_spaces.ensures c.in_ok-high.ensures.read c.in_ok-rest.ensures.spaces
+
+pub returns-clause-pre : goal.returns-clause-pre
+returns-clause-pre c = end-pre _ (named_by c.in_ok-high.high) c.in_ok-high.ensures.read.spelled
+
+pub returns-clause-spaces : goal.returns-clause-spaces
+returns-clause-spaces c = stops-behind c.in_ok-high.behind.now c.in_ok-rest.rest.now c.in_ok-rest.ensures.spaces
+
+pub returns-clause-within : goal.returns-clause-within
+returns-clause-within c =
+    let l = ap (λ (x : List ℕ). length x) c.in_ok-rest.ensures.spaces in
+    let k = behind-le is_space c.in_ok-high.behind.now in
+    let m = ap (λ (x : List ℕ). length x) c.behind_spaces.ensures in
+    let n = behind-le is_space c.args.text.now in
+    within-wider c.in_ok-high.high c.behind_spaces.result.now c.args.text.now c.in_ok-high.behind.now c.in_ok-rest.rest.now c.in_ok-high.ensures.within (omega arith) (omega arith)
+
+pub returns-clause-goes : goal.returns-clause-goes
+returns-clause-goes c =
+    dash-lead c.args.text.now c.behind_spaces.result.now (sym c.starts_with_space.ensures ∙ c.if-not-starts_with_space.false) c.behind_spaces.ensures ∙ c.in_ok-high.ensures.goes upper ∙ c.in_ok-rest.ensures.goes upper

@@ -1,0 +1,54 @@
+use Rattle.std.proofs.Common.{◌≡◌, ◌≤◌, ◌+◌, ℕ, List, Vec, Global, length, map, ap, arith, ◌∙◌, sym, refl}
+use Rattle.pn_ranges.specs.declared.bound.Bound.{Bound}
+use Rattle.pn_ranges.specs.Places.{first_fault, start}
+use Rattle.pn_ranges.proofs.Joins.{exit_by, stops-from}
+use Rattle.pn_ranges.proofs.Sets.{bar-stop, before-next, before-start, closed-bar, closed-end, closed-start, no-bar, ranges-end}
+use Rattle.pn_ranges.proofs.set.ranges_in.Goals as goal
+
+pub each-init : goal.each-init
+each-init c = record {
+  read = before-start c.args.text.now _ (ap (map (λ (v : Vec Bound Global). v.items)) c.requires);
+  few = omega arith;
+  goes = refl;
+}
+
+pub returns-in_err-k-clause-stops : goal.returns-in_err-k-clause-stops
+returns-in_err-k-clause-stops c =
+    let i = c.each.invariant in
+    exit_by (first_fault start c.args.text.now) c.args.text.now _ _ c.from_residual.ensures.1
+    (stops-from (first_fault start c.args.text.now) (first_fault start c.each.rest.now) i.read.front c.each.rest.now c.args.text.now _ i.goes i.read.split c.in_err-k.ensures.stops)
+
+pub returns-in_default-clause-read : goal.returns-in_default-clause-read
+returns-in_default-clause-read c =
+    let r = c.in_ok-k.ensures.read in
+    ranges-end c.args.text.now c.each.rest.now c.in_ok-k.behind.now c.each.count c.in_ok-k.k r.0 _ _ c.each.invariant.read r.1
+    (no-bar c.in_ok-k.behind.now c.in_ok-k.ensures.ends c.in_default.ensures) r.2
+
+pub returns-in_default-clause-right : goal.returns-in_default-clause-right
+returns-in_default-clause-right c = c.each.invariant.goes ∙ c.in_ok-k.ensures.goes ∙ closed-end c.in_ok-k.behind.now (no-bar c.in_ok-k.behind.now c.in_ok-k.ensures.ends c.in_default.ensures)
+
+pub returns-in_default-strip-clause-stops : goal.returns-in_default-strip-clause-stops
+returns-in_default-strip-clause-stops c =
+    c.each.invariant.goes ∙ c.in_ok-k.ensures.goes ∙ closed-bar c.in_ok-k.behind.now c.in-Some.after.now c.in-Some.ensures ∙ bar-stop c.in-Some.after.now c.in_default-strip.ensures
+
+pub each-preserved : goal.each-preserved
+each-preserved c =
+    let i = c.each.invariant in
+    let r = c.in_ok-k.ensures.read in
+    record {
+      read = before-next c.args.text.now c.each.rest.now c.in_ok-k.behind.now c.in-Some.after.now c.in-Some-strip.next.now c.each.count c.in_ok-k.k r.0 _ _ i.read r.1 c.in-Some.ensures c.in-Some-strip.ensures r.2;
+      few =
+          let f = i.few in
+          let g = c.in_ok-k.ensures.few in
+          let a = ap (λ (y : List ℕ). length y) c.in-Some.ensures in
+          let b = ap (λ (y : List ℕ). length y) c.in-Some-strip.ensures in
+          omega arith;
+      goes = i.goes ∙ c.in_ok-k.ensures.goes ∙ closed-start c.in_ok-k.behind.now c.in-Some.after.now c.in-Some-strip.next.now c.in-Some.ensures c.in-Some-strip.ensures;
+    }
+
+pub each-smaller : goal.each-smaller
+each-smaller c =
+    let g = c.in_ok-k.ensures.few in
+    let a = ap (λ (y : List ℕ). length y) c.in-Some.ensures in
+    let b = ap (λ (y : List ℕ). length y) c.in-Some-strip.ensures in
+    omega arith

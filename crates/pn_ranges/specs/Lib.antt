@@ -1,0 +1,9 @@
+pub mod Bytes
+pub mod Limits
+pub mod Table
+pub mod Edges
+pub mod Grammar
+pub mod Places
+pub mod Reading
+pub mod Refusals
+pub mod Laws

@@ -1,0 +1,102 @@
+-- What the reader has read, and where it stops.
+use Rattle.std.specs.Prelude.{◌≡◌, ◌≤◌, ◌⊎◌, ℕ, ◌+◌, ◌==◌, Bool, true, false, List, [], ◌∷◌, ◌++◌, length, map, Option, Some, None}
+use Rattle.pn_ranges.specs.declared.comparator.Sign.{Sign}
+use Rattle.pn_ranges.specs.declared.fault.Stop.{Stop}
+use Rattle.pn_ranges.specs.declared.fault.Stop.TheVariants as stop
+use Rattle.pn_ranges.specs.Bytes.{is_space, starts_with}
+use Rattle.pn_ranges.specs.Grammar.{AreComparators, AreGaps, AreRanges, AreSpaces, IsComparator, IsEnd, IsRange}
+use Rattle.pn_ranges.specs.Limits.{Limit}
+use Rattle.pn_ranges.specs.Table.{Named, all_fit, between, limits, upper_limits}
+
+-- where a range ends: at the text's end or a `|`
+abbrev pub ends_range : List ℕ → Bool
+ends_range [] = true
+ends_range (b ∷ rest) = b == 124
+
+-- comparators and the spaces behind them
+pub record ComparatorsAt (text : List ℕ) (k : ℕ) (ls : List Limit) (rest : List ℕ) : Type 0 where
+  pub front : List ℕ
+  pub spaces : List ℕ
+  pub split : text ≡ front ++ (spaces ++ rest)
+  pub read : AreComparators front k ls
+  pub blank : AreSpaces spaces
+  pub apart : ends_range rest ≡ false → starts_with is_space spaces ≡ true
+
+-- a comparator and the spaces behind it
+pub record SpacedAt (text : List ℕ) (x : Sign) (n : Named) (rest : List ℕ) : Type 0 where
+  pub front : List ℕ
+  pub spaces : List ℕ
+  pub split : text ≡ front ++ (spaces ++ rest)
+  pub read : IsComparator front x n
+  pub blank : AreSpaces spaces
+  pub apart : ends_range rest ≡ false → starts_with is_space spaces ≡ true
+
+-- a lower end of `A - B` and the spaces behind it
+pub record LowerAt (text : List ℕ) (n : Named) (rest : List ℕ) : Type 0 where
+  pub front : List ℕ
+  pub spaces : List ℕ
+  pub split : text ≡ front ++ (spaces ++ rest)
+  pub read : IsEnd front n
+  pub blank : AreSpaces spaces
+  pub apart : ends_range rest ≡ false → starts_with is_space spaces ≡ true
+
+-- spaces, an upper end of `A - B` and the spaces behind it
+pub record UpperAt (text : List ℕ) (n : Named) (rest : List ℕ) : Type 0 where
+  pub gaps : List ℕ
+  pub front : List ℕ
+  pub spaces : List ℕ
+  pub split : text ≡ gaps ++ (front ++ (spaces ++ rest))
+  pub apart : AreGaps gaps
+  pub read : IsEnd front n
+  pub blank : AreSpaces spaces
+
+-- the same with the limits that a lower end gives it
+pub record HyphenAt (low : Named) (text : List ℕ) (ls : List Limit) (rest : List ℕ) : Type 0 where
+  pub high : Named
+  pub read : UpperAt text high rest
+  pub limits : ls ≡ between low high
+  pub fit : all_fit ls ≡ true
+
+-- a range and the spaces behind it
+pub record RangeAt (text : List ℕ) (k : ℕ) (ls : List Limit) (rest : List ℕ) : Type 0 where
+  pub front : List ℕ
+  pub spaces : List ℕ
+  pub split : text ≡ front ++ (spaces ++ rest)
+  pub read : IsRange front k ls
+  pub blank : AreSpaces spaces
+
+-- spaces, a range and the spaces behind it
+pub record SpacedRange (text : List ℕ) (k : ℕ) (ls : List Limit) (rest : List ℕ) : Type 0 where
+  pub lead : List ℕ
+  pub front : List ℕ
+  pub spaces : List ℕ
+  pub split : text ≡ lead ++ (front ++ (spaces ++ rest))
+  pub before : AreSpaces lead
+  pub read : IsRange front k ls
+  pub blank : AreSpaces spaces
+
+-- a comparator or an upper end that has a limit with a number of 2^64
+pub data IsOver : List ℕ → Type 0 where
+  comparator : (t : List ℕ) (x : Sign) (n : Named) → IsComparator t x n → all_fit (limits x n) ≡ false → IsOver t
+  upper : (t : List ℕ) (n : Named) → IsEnd t n → all_fit (upper_limits n) ≡ false → IsOver t
+
+-- one of them in a text, and a place in it
+pub record HasOver (text : List ℕ) (left : ℕ) : Type 0 where
+  pub front : List ℕ
+  pub over : List ℕ
+  pub rest : List ℕ
+  pub split : text ≡ front ++ (over ++ rest)
+  pub is : IsOver over
+  pub within : left ≤ length text
+
+-- why the reader stops, beside the first fault of the automaton
+abbrev pub Stops : Option Stop → List ℕ → Stop → Type 0
+Stops found text stop.Memory = Unit {0}
+Stops found text (stop.Byte n) = found ≡ Some (stop.Byte n)
+Stops found text (stop.Number n) = (found ≡ Some (stop.Number n)) ⊎ HasOver text n
+
+-- ranges with `||` behind each, which ranges behind them go on from
+pub record RangesBefore (text rest : List ℕ) (count : ℕ) (ranges : List (List Limit)) : Type 0 where
+  pub front : List ℕ
+  pub split : text ≡ front ++ rest
+  pub more : (t : List ℕ) (k : ℕ) (lss : List (List Limit)) → AreRanges t k lss → AreRanges (front ++ t) (count + k) (ranges ++ lss)

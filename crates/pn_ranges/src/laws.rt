@@ -1,0 +1,23 @@
+// Laws of ranges in the subject's own words. The definitions by which `Range` reads and holds obey them.
+ghost use Rattle.pn_ranges.specs.Laws.{CaretLaw, HyphenLaw, PreLaw, UnionLaw};
+
+/// A caret of a full version without pre-release holds exactly the releases that aren't below it and whose left-most
+/// number that isn't zero is the same.
+pub fn caret_law()
+    ensures { CaretLaw }
+{}
+
+/// `A - B` is `>=A <=B` at full versions.
+pub fn hyphen_law()
+    ensures { HyphenLaw }
+{}
+
+/// A set holds a version if one of its ranges does.
+pub fn union_law()
+    ensures { UnionLaw }
+{}
+
+/// A pre-release is held only where a bound has a pre-release and the same three numbers.
+pub fn pre_law()
+    ensures { PreLaw }
+{}

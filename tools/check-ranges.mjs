@@ -1,0 +1,158 @@
+// Compares `holds` with the semver library that npm carries, on pairs of a range and a version: generated ones, and the
+// ranges of the manifests that npm carries. Pairs where this project's rules differ by design are counted by rule.
+// Usage: node tools/check-ranges.mjs [PATH OF range_check]
+import { execFileSync, spawnSync } from 'node:child_process';
+import { existsSync, readdirSync, readFileSync, statSync } from 'node:fs';
+import { createRequire } from 'node:module';
+import { dirname, join } from 'node:path';
+import { fileURLToPath } from 'node:url';
+
+const skip = (why) => {
+  console.log(`check-ranges: skipped: ${why}`);
+  process.exit(0);
+};
+
+const here = dirname(fileURLToPath(import.meta.url));
+const binary = process.argv[2] ?? join(here, '..', 'crates', 'range_check', 'out', 'range_check');
+
+let root;
+try {
+  root = execFileSync('npm', ['root', '-g'], { encoding: 'utf8' }).trim();
+} catch {
+  skip('no npm');
+}
+const npm = join(root, 'npm');
+let semver;
+try {
+  semver = createRequire(join(npm, 'package.json'))('semver');
+} catch {
+  skip('npm carries no semver');
+}
+if (!existsSync(binary)) {
+  if (process.argv[2] !== undefined) {
+    console.log(`check-ranges: there is no ${binary}`);
+    process.exit(1);
+  }
+  // the kit builds what it has proved
+  spawnSync('rt', ['run'], { cwd: join(here, '..', 'crates', 'range_check'), input: '' });
+}
+if (!existsSync(binary)) skip(`there is no ${binary}, and no rt to build it`);
+
+// A fixed sequence of numbers.
+let seed = 20240229;
+const below = (n) => {
+  seed = (Math.imul(seed, 1103515245) + 12345) >>> 0;
+  return (seed >>> 8) % n;
+};
+const pick = (list) => list[below(list.length)];
+
+const number = () => pick(['0', '0', '1', '1', '2', '3', '10']);
+const part = () => (below(8) === 0 ? pick(['x', 'X', '*']) : number());
+const pre = () => pick(['-0', '-a', '-alpha.1', '-rc.2', '-1.2', '-a.b.c']);
+const partial = () => {
+  const parts = 1 + below(3);
+  let text = part();
+  for (let i = 1; i < parts; i += 1) text += `.${part()}`;
+  if (parts === 3 && below(3) === 0) text += pre();
+  if (parts === 3 && below(12) === 0) text += '+build.01';
+  return text;
+};
+const lead = () => (below(12) === 0 ? pick(['v', '=', 'v=']) : '');
+const sign = () => pick(['', '', '', '<', '>', '<=', '>=', '=', '~', '^', '^', '~>']);
+const comparator = () => sign() + (below(8) === 0 ? ' ' : '') + lead() + partial();
+const range = () => {
+  const kind = below(10);
+  if (kind === 0) return '';
+  if (kind < 3) return `${partial()} - ${partial()}`;
+  let text = comparator();
+  for (let i = below(3); i > 0; i -= 1) text += ` ${comparator()}`;
+  return text;
+};
+const set = () => {
+  let text = range();
+  for (let i = below(4) === 0 ? 1 + below(2) : 0; i > 0; i -= 1) text += pick(['||', ' || ']) + range();
+  return text;
+};
+const version = () => `${number()}.${number()}.${number()}${below(3) === 0 ? pre() : ''}${below(15) === 0 ? '+b' : ''}`;
+
+const pairs = [];
+for (let i = 0; i < 6000; i += 1) pairs.push([set(), version()]);
+
+// Odd texts, most of which are refused.
+const odd = ['01', '1.02.3', '>', '1.2.3-01', '1.2.3.4', '1-2', '>1<2', '1 -2', '1,2', 'latest', '>=1.2.3-', '1.2.3+', '||', ' || 1', '^',
+  '~ 1.2', '> 1', '1.2.3 - ', '- 1', '18446744073709551615.0.0', '99999999999999999999', '1\u000b<2', '\u00a01', '1\f||2', 'v1', '=v1.2.3', '>=v1.2', '1.x.3-a', '*.1.2'];
+for (const text of odd) for (let i = 0; i < 4; i += 1) pairs.push([text, version()]);
+
+// The ranges of the manifests that npm carries.
+const manifests = (folder, depth) => {
+  const found = [];
+  for (const name of readdirSync(folder)) {
+    const path = join(folder, name);
+    if (name === 'package.json') found.push(path);
+    else if (depth > 0 && statSync(path).isDirectory()) found.push(...manifests(path, depth - 1));
+  }
+  return found;
+};
+const ranges = new Set();
+for (const path of manifests(npm, 6)) {
+  let manifest;
+  try {
+    manifest = JSON.parse(readFileSync(path, 'utf8'));
+  } catch {
+    continue;
+  }
+  for (const field of ['dependencies', 'devDependencies', 'optionalDependencies', 'peerDependencies', 'engines']) {
+    for (const text of Object.values(manifest[field] ?? {})) {
+      if (typeof text === 'string' && !text.includes('\n') && !text.includes(':')) ranges.add(text);
+    }
+  }
+}
+for (const text of ranges) {
+  const numbers = (text.match(/\d+/g) ?? ['1']).map(Number).filter((n) => n < 2 ** 32);
+  const near = () => numbers[below(numbers.length)] ?? 1;
+  for (let i = 0; i < 3; i += 1) {
+    pairs.push([text, `${near() + below(2)}.${below(2) === 0 ? near() : below(10)}.${below(10)}${below(4) === 0 ? pre() : ''}`]);
+  }
+}
+
+const theirs = ([text, at]) => {
+  try {
+    return String(new semver.Range(text).test(new semver.SemVer(at)));
+  } catch {
+    return 'refused';
+  }
+};
+
+// Where the rules differ by design: what is read here and refused there, or the other way round. A pair that both read
+// has one answer.
+const rules = [
+  ['more than one leading `v` or `=`, read here alone', (r, here, there) => there === 'refused' && here !== 'refused' && /[v=][ \t]*=/.test(r)],
+  ['numbers from 2^53 to 2^64 - 1, read here alone', (r, here, there) => there === 'refused' && here !== 'refused' && /\d{16,}/.test(r)],
+  ['blanks other than space and tab, read there alone', (r, here, there) => here === 'refused' && there !== 'refused' && /[^\S \t]/.test(r)],
+];
+
+const run = spawnSync(binary, { input: pairs.map(([r, v]) => `${r}\t${v}\n`).join(''), encoding: 'utf8', maxBuffer: 1 << 28 });
+if (run.status !== 0) {
+  console.log(`check-ranges: ${binary} ended with ${run.status}`);
+  process.exit(1);
+}
+const ours = run.stdout.trimEnd().split('\n');
+if (ours.length !== pairs.length) {
+  console.log(`check-ranges: ${pairs.length} pairs, ${ours.length} answers`);
+  process.exit(1);
+}
+
+const counts = new Map(rules.map(([name]) => [name, 0]));
+const wrong = [];
+for (let i = 0; i < pairs.length; i += 1) {
+  const answer = theirs(pairs[i]);
+  if (answer === ours[i]) continue;
+  const rule = rules.find(([, applies]) => applies(pairs[i][0], ours[i], answer));
+  if (rule === undefined) wrong.push(`${JSON.stringify(pairs[i][0])} ${pairs[i][1]}: ${ours[i]} here, ${answer} there`);
+  else counts.set(rule[0], counts.get(rule[0]) + 1);
+}
+console.log(`check-ranges: ${pairs.length} pairs, semver ${semver.SEMVER_SPEC_VERSION}, ${ranges.size} ranges of manifests`);
+for (const [name, count] of counts) console.log(`  by design: ${name}: ${count}`);
+for (const line of wrong.slice(0, 50)) console.log(`  differs: ${line}`);
+console.log(`check-ranges: ${wrong.length} other differences`);
+process.exit(wrong.length === 0 ? 0 : 1);
