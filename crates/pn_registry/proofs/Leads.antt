@@ -1,0 +1,46 @@
+-- Entries of a folder that are taken in one after the other.
+use Rattle.std.proofs.Common.{◌≡◌, ◌++◌, ℕ, List, [], ◌∷◌, refl, sym, ap, ◌∙◌, subst, append_assoc, append-nil, Some, None}
+use Rattle.std.specs.Prelude.{Option, IfSome}
+use Rattle.std.specs.Option.{ForSome}
+use Rattle.pn_text.specs.Path.{Path}
+use Rattle.pn_fs.specs.Tree.{Tree}
+use Rattle.pn_registry.specs.Files.{File}
+use Rattle.pn_registry.specs.Turns.{folder_at, file_at, folders_in, files_in, Takes, TakesAll}
+
+-- what is left leads from what was taken in to the whole
+pub record Leads (t : Tree) (p : Path) (rest names : List (List ℕ)) (todo todo' : List Path) (found found' : List File) : Type 0 where
+  pub folders : todo' ++ folders_in t p rest ≡ todo ++ folders_in t p names
+  pub files : found' ++ files_in t p rest ≡ found ++ files_in t p names
+
+pub at_start : (t : Tree) (p : Path) (names : List (List ℕ)) (todo : List Path) (found : List File) → Leads t p names names todo todo found found
+at_start t p names todo found = record { folders = refl; files = refl }
+
+pub one_more : (t : Tree) (p : Path) (x : List ℕ) (left rest names : List (List ℕ)) (todo mid todo' : List Path) (found here found' : List File) → left ≡ x ∷ rest
+    → Leads t p left names todo mid found here → Takes t p x mid todo' here found' → Leads t p rest names todo todo' found found'
+one_more t p x left rest names todo mid todo' found here found' cut l k = record {
+  folders =
+      ap (λ d. d ++ folders_in t p rest) k.folders
+      ∙ append_assoc mid (folder_at (t (x ∷ p)) (x ∷ p)) (folders_in t p rest)
+      ∙ ap (λ ns. mid ++ folders_in t p ns) (sym cut)
+      ∙ l.folders;
+  files =
+      ap (λ d. d ++ files_in t p rest) k.files
+      ∙ append_assoc here (file_at (t (x ∷ p)) (x ∷ p)) (files_in t p rest)
+      ∙ ap (λ ns. here ++ files_in t p ns) (sym cut)
+      ∙ l.files;
+}
+
+pub all_taken : (t : Tree) (p : Path) (rest names : List (List ℕ)) (todo todo' : List Path) (found found' : List File) → rest ≡ [] → Leads t p rest names todo todo' found found' → TakesAll t p names todo todo' found found'
+all_taken t p rest names todo todo' found found' none l = record {
+  folders = sym (append-nil todo') ∙ ap (λ ns. todo' ++ folders_in t p ns) (sym none) ∙ l.folders;
+  files = sym (append-nil found') ∙ ap (λ ns. found' ++ files_in t p ns) (sym none) ∙ l.files;
+}
+
+-- facts of a tree that is told
+pub for_some : {T : Type 0} (P : T → Type 0) (o : Option T) → IfSome o P → ForSome o P
+for_some P None h t e = cc
+for_some P (Some u) h t e = let one : u ≡ t = cc in subst P one h
+
+pub if_some : {T : Type 0} (P : T → Type 0) (o : Option T) → ForSome o P → IfSome o P
+if_some P None h = tt
+if_some P (Some u) h = h u refl

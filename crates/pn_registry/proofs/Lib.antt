@@ -1,0 +1,11 @@
+pub mod Lists
+pub mod Children
+pub mod Walks
+pub mod Packages
+pub mod Orders
+pub mod Finds
+pub mod Within
+pub mod Texts
+pub mod Leads
+pub mod Refusals
+pub mod Clean

@@ -1,0 +1,9 @@
+use Rattle.pn_registry.proofs.Texts.{slash_behind, leads_there}
+use Rattle.pn_registry.proofs.walk.below.Goals as goal
+
+pub behind-rest-requires : goal.behind-rest-requires
+behind-rest-requires c = slash_behind c.args.at.now c.args.path.now c.as_str-2.result.now c.as_str.result.now c.requires.deep c.requires.within c.requires.below c.as_str-2.ensures.text c.as_str.ensures.text
+
+pub returns-in-Ok-clause-path : goal.returns-in-Ok-clause-path
+returns-in-Ok-clause-path c =
+    leads_there c.args.at.now c.args.path.now c.in-Ok.path c.as_str-2.result.now c.as_str.result.now c.behind-rest.result.now c.requires.deep c.requires.within c.requires.below c.as_str-2.ensures.text c.as_str.ensures.text c.behind-rest.ensures c.in-Ok.ensures.ok

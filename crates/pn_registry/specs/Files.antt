@@ -1,0 +1,36 @@
+-- The files below a folder.
+use Rattle.std.specs.Prelude.{◌≡◌, ◌≤◌, ℕ, List, ◌++◌, length, map, Some, false}
+use Rattle.std.specs.List.{Contains}
+use Rattle.std.specs.List.Sorted.{IsStrictlySortedBy}
+use Rattle.std.specs.Cmp.Lexicographic.{slice_cmp}
+use Rattle.std.specs.Ordering.{nat_cmp}
+use Rattle.pn_text.specs.Path.{Path, text_below}
+use Rattle.pn_text.specs.Name.{holds_modules}
+use Rattle.pn_fs.specs.Tree.{Tree, file}
+use Rattle.pn_read.specs.Small.{IsFileOf}
+
+-- a path below some folder, and the length of the file there
+abbrev pub File : Type 0
+File = Path × ℕ
+
+-- byte order of the paths' texts, each once
+abbrev pub IsRising : List File → Type 0
+IsRising files = IsStrictlySortedBy (slice_cmp nat_cmp) (map (λ (f : File). text_below f.0) files)
+
+-- These are all the files below a folder of the tree, with their lengths.
+pub record IsFilesOf (t : Tree) (at : Path) (files : List File) : Type 0 where
+  pub stands : (q : Path) (n : ℕ) → Contains files (q, n) → IsFileOf n (t (q ++ at))
+  pub all : (q : Path) (bytes : List ℕ) → t (q ++ at) ≡ Some (file bytes) → Contains files (q, length bytes)
+
+abbrev pub file_limit : ℕ
+file_limit = 268435456
+
+-- no part is `node_modules`, and the file isn't too long
+pub record IsClean (f : File) : Type 0 where
+  pub plain : holds_modules f.0 ≡ false
+  pub short : f.1 ≤ file_limit
+
+-- The second list has only files of the first one, and one for each of their paths' texts.
+pub record KeepsPaths (files list : List File) : Type 0 where
+  pub from : (f : File) → Contains list f → Contains files f
+  pub paths : (f : File) → Contains files f → (g : File) × Contains list g × (text_below g.0 ≡ text_below f.0)

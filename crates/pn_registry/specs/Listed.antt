@@ -1,0 +1,16 @@
+-- What a file of a package is seen as.
+use Rattle.std.specs.Prelude.{ℕ, List, ◌++◌}
+use Rattle.pn_text.specs.Path.{Path, text_below}
+use Rattle.pn_registry.specs.Files.{File}
+use Rattle.pn_registry.specs.declared.list.PackageFile.{PackageFile}
+
+abbrev pub file_of : PackageFile → File
+file_of f = (f.path, f.length)
+
+-- its path's text, behind a slash
+abbrev pub text_of : PackageFile → List ℕ
+text_of f = text_below f.path
+
+-- the same with the whole path
+abbrev pub placed : Path → PackageFile → File
+placed at f = (f.path ++ at, f.length)

@@ -1,0 +1,53 @@
+-- Why a package has no manifest.
+use Rattle.std.specs.Prelude.{◌≡◌, ◌≤◌, ◌<◌, ℕ, List, Option, Some, IfSome, length}
+use Rattle.serde_json.specs.Data.{Data}
+use Rattle.pn_text.specs.Causes.{Rose}
+use Rattle.pn_fs.specs.Tree.{Entry, file}
+use Rattle.pn_fs.specs.Seen.{Seen}
+use Rattle.pn_read.specs.Small.{IsNoFile, IsFileOf}
+use Rattle.pn_manifest.specs.Exact.{Id}
+use Rattle.pn_manifest.specs.Fields.{Spot}
+use Rattle.pn_manifest.specs.Text.{IsObjectText}
+use Rattle.pn_registry.specs.Places.{manifest_path}
+use Rattle.pn_registry.specs.Package.{text_limit, first_wrong_of, IsText}
+use Rattle.pn_registry.specs.declared.package.PackageFault.{PackageFault}
+use Rattle.pn_registry.specs.declared.package.PackageFault.TheVariants.{Missing, TooLarge, NotJson, BadField, Fault, Memory}
+
+-- A file of at most so many bytes has the text of no JSON object.
+pub record IsNoText (e : Option Entry) : Type 0 where
+  pub bytes : List ℕ
+  pub is : e ≡ Some (file bytes)
+  pub short : length bytes ≤ text_limit
+  pub none : (d : Data) → IsObjectText bytes d → ⊥
+
+-- This is the first wrong field and key of the object in the file.
+pub record IsWrongText (id : Id) (e : Option Entry) (f k : List ℕ) : Type 0 where
+  pub value : Data
+  pub text : IsText e value
+  pub wrong : first_wrong_of id value ≡ Some (f, k)
+
+abbrev pub PackageRefused : Id → Seen → Seen → PackageFault → Type 0
+PackageRefused id old new Missing = IfSome old.tree (λ t. IsNoFile (t (manifest_path id)))
+PackageRefused id old new (TooLarge n) = (text_limit < n) × IfSome old.tree (λ t. IsFileOf n (t (manifest_path id)))
+PackageRefused id old new NotJson = IfSome old.tree (λ t. IsNoText (t (manifest_path id)))
+PackageRefused id old new (BadField f k) = IfSome old.tree (λ t. IsWrongText id (t (manifest_path id)) f k)
+PackageRefused id old new Fault = Rose old.faults new.faults
+PackageRefused id old new Memory = Unit {0}
+
+-- the same of the file's bytes
+abbrev pub TextRefused : Id → List ℕ → PackageFault → Type 0
+TextRefused id bytes Missing = ⊥
+TextRefused id bytes (TooLarge n) = ⊥
+TextRefused id bytes NotJson = (d : Data) → IsObjectText bytes d → ⊥
+TextRefused id bytes (BadField f k) = (d : Data) × IsObjectText bytes d × (first_wrong_of id d ≡ Some (f, k))
+TextRefused id bytes Fault = ⊥
+TextRefused id bytes Memory = Unit {0}
+
+-- a field states another name or version, or there was no memory
+abbrev pub IsOther : Option Spot → PackageFault → Type 0
+IsOther spot Missing = ⊥
+IsOther spot (TooLarge n) = ⊥
+IsOther spot NotJson = ⊥
+IsOther spot (BadField f k) = spot ≡ Some (f, k)
+IsOther spot Fault = ⊥
+IsOther spot Memory = Unit {0}

@@ -1,0 +1,74 @@
+-- What is found where a folder's entries are listed.
+use Rattle.std.specs.Prelude.{◌≡◌, ◌<◌, ℕ, List, [], ◌∷◌, ◌++◌, length, Option, Some, None, IfSome}
+use Rattle.pn_text.specs.Path.{Path}
+use Rattle.pn_text.specs.Causes.{Rose}
+use Rattle.pn_fs.specs.Tree.{Entry, folder, file, link, Tree}
+use Rattle.pn_fs.specs.Seen.{Seen}
+use Rattle.pn_fs.specs.Calls.{IsListing}
+use Rattle.pn_registry.specs.Files.{File}
+use Rattle.pn_registry.specs.Below.{HasMany}
+use Rattle.pn_registry.specs.declared.walk.WalkFault.{WalkFault}
+use Rattle.pn_registry.specs.declared.walk.WalkFault.TheVariants.{Entries, Fault, Memory}
+
+-- the path where a folder stands there
+abbrev pub folder_at : Option Entry → Path → List Path
+folder_at None p = []
+folder_at (Some folder) p = p ∷ []
+folder_at (Some (file bytes)) p = []
+folder_at (Some (link text)) p = []
+
+-- the path and the length where a file stands there
+abbrev pub file_at : Option Entry → Path → List File
+file_at None p = []
+file_at (Some folder) p = []
+file_at (Some (file bytes)) p = (p, length bytes) ∷ []
+file_at (Some (link text)) p = []
+
+-- the folders among these entries of a folder
+abbrev pub folders_in : Tree → Path → List (List ℕ) → List Path
+folders_in t p [] = []
+folders_in t p (x ∷ xs) = folder_at (t (x ∷ p)) (x ∷ p) ++ folders_in t p xs
+
+-- the files among them
+abbrev pub files_in : Tree → Path → List (List ℕ) → List File
+files_in t p [] = []
+files_in t p (x ∷ xs) = file_at (t (x ∷ p)) (x ∷ p) ++ files_in t p xs
+
+-- One entry was looked at.
+pub record Takes (t : Tree) (p : Path) (x : List ℕ) (todo todo' : List Path) (found found' : List File) : Type 0 where
+  pub folders : todo' ≡ todo ++ folder_at (t (x ∷ p)) (x ∷ p)
+  pub files : found' ≡ found ++ file_at (t (x ∷ p)) (x ∷ p)
+
+-- These entries were looked at.
+pub record TakesAll (t : Tree) (p : Path) (names : List (List ℕ)) (todo todo' : List Path) (found found' : List File) : Type 0 where
+  pub folders : todo' ≡ todo ++ folders_in t p names
+  pub files : found' ≡ found ++ files_in t p names
+
+-- A folder was listed, and each of its n entries looked at.
+pub record Lists (t : Tree) (p : Path) (n : ℕ) (todo todo' : List Path) (found found' : List File) : Type 0 where
+  pub names : List (List ℕ)
+  pub listing : IsListing t p names
+  pub count : n ≡ length names
+  pub takes : TakesAll t p names todo todo' found found'
+
+-- a folder with more entries than that
+pub record IsFull (t : Tree) (p : Path) (room : ℕ) : Type 0 where
+  pub names : List (List ℕ)
+  pub listing : IsListing t p names
+  pub many : room < length names
+
+abbrev pub ListRefused : Seen → Seen → Path → ℕ → WalkFault → Type 0
+ListRefused old new p room Entries = IfSome old.tree (λ t. IsFull t p room)
+ListRefused old new p room Fault = Rose old.faults new.faults
+ListRefused old new p room Memory = Unit {0}
+
+-- a call failed, or there was no memory
+abbrev pub CallRefused : Seen → Seen → WalkFault → Type 0
+CallRefused old new Entries = ⊥
+CallRefused old new Fault = Rose old.faults new.faults
+CallRefused old new Memory = Unit {0}
+
+abbrev pub WalkRefused : Seen → Seen → Path → ℕ → WalkFault → Type 0
+WalkRefused old new at limit Entries = IfSome old.tree (λ t. HasMany t at limit)
+WalkRefused old new at limit Fault = Rose old.faults new.faults
+WalkRefused old new at limit Memory = Unit {0}

@@ -1,0 +1,136 @@
+// The files of a package.
+ghost use Rattle.std.specs.Prelude.{◌≡◌, ◌≢◌, [], OnOk, IfOk, IfErr, IfSome, Some, None, map, find};
+ghost use Rattle.std.specs.Option.{ForSome};
+ghost use Rattle.std.specs.List.{All};
+ghost use Rattle.pn_fs.specs.Tree.{folder};
+ghost use Rattle.pn_fs.specs.Seen.{Keeps};
+ghost use Rattle.pn_registry.specs.Places.{package_folder};
+ghost use Rattle.pn_registry.specs.Files.{IsFilesOf, IsClean};
+ghost use Rattle.pn_registry.specs.Below.{HasFew};
+ghost use Rattle.pn_registry.specs.Listed.{file_of};
+ghost use Rattle.pn_registry.specs.FilesFaults.{FilesRefused, NotWalked, IsModular, IsLong, IsPassed, IsNamed, is_modular, is_large, entry_limit};
+
+use crate::folder::package_folder;
+use crate::list::{Files, PackageFile};
+use crate::order::in_order;
+use crate::parts::has_modules;
+use crate::walk::{WalkFault, walk};
+use pn_fs::ReadFs;
+use pn_manifest::ExactId;
+use pn_text::{AbsPath, Memory, RelPath};
+use std::alloc::Global;
+
+const FILE_LIMIT: u64 = 268435456;
+
+const ENTRY_LIMIT: u64 = 4194304;
+
+/// Why the files of a package aren't told: the first path in byte order with a part `node_modules`; else
+/// the first file of more than 268,435,456 bytes, with its length; more than 4,194,304 entries; a failed
+/// call; no memory.
+#[derive(Drop)]
+pub enum FilesFault {
+    Modules(RelPath),
+    TooLarge(RelPath, u64),
+    Entries,
+    Fault,
+    Memory,
+}
+
+/// All the files at any depth below a package's folder. Links are passed over.
+pub fn files<R: ReadFs>(alloc: Global, reg: &mut R, id: &ExactId) -> Result<Files, FilesFault>
+    requires { ForSome (R.seen reg.old).tree (λ t. t (package_folder id.now) ≡ Some folder) }
+    ensures files { IfSome (R.seen reg.old).tree (λ t. IfOk result (IsFilesOf t (package_folder id.now))) }
+    ensures few { IfSome (R.seen reg.old).tree (λ t. OnOk result (HasFew t (package_folder id.now) entry_limit)) }
+    ensures clean { IfOk result (All IsClean) }
+    ensures kept { Keeps (R.seen reg.old) (R.seen reg.new) }
+    ensures fault { IfErr result (FilesRefused (package_folder id.now) (R.seen reg.old) (R.seen reg.new)) }
+{
+    match package_folder(alloc, id) {
+        Ok(Some(at)) => files_at(alloc, reg, &at),
+        Ok(None) => Ok(Files::new(alloc)),
+        Err(_) => Err(FilesFault::Memory),
+    }
+}
+
+fn files_at<R: ReadFs>(alloc: Global, reg: &mut R, at: &AbsPath) -> Result<Files, FilesFault>
+    requires folder { ForSome (R.seen reg.old).tree (λ t. t at.now ≡ Some folder) }
+    requires deep { at.now ≢ [] }
+    ensures files { IfSome (R.seen reg.old).tree (λ t. IfOk result (IsFilesOf t at.now)) }
+    ensures few { IfSome (R.seen reg.old).tree (λ t. OnOk result (HasFew t at.now entry_limit)) }
+    ensures clean { IfOk result (All IsClean) }
+    ensures kept { Keeps (R.seen reg.old) (R.seen reg.new) }
+    ensures fault { IfErr result (FilesRefused at.now (R.seen reg.old) (R.seen reg.new)) }
+{
+    match all_files(alloc, reg, at) {
+        Ok(files) => match refuse(alloc, files.as_slice()) {
+            Ok(()) => Ok(files),
+            Err(fault) => Err(fault),
+        },
+        Err(fault) => Err(fault),
+    }
+}
+
+fn all_files<R: ReadFs>(alloc: Global, reg: &mut R, at: &AbsPath) -> Result<Files, FilesFault>
+    requires folder { ForSome (R.seen reg.old).tree (λ t. t at.now ≡ Some folder) }
+    requires deep { at.now ≢ [] }
+    ensures files { IfSome (R.seen reg.old).tree (λ t. IfOk result (IsFilesOf t at.now)) }
+    ensures few { IfSome (R.seen reg.old).tree (λ t. OnOk result (HasFew t at.now entry_limit)) }
+    ensures kept { Keeps (R.seen reg.old) (R.seen reg.new) }
+    ensures fault { IfErr result (NotWalked at.now (R.seen reg.old) (R.seen reg.new)) }
+{
+    match walk(alloc, reg, at, ENTRY_LIMIT) {
+        Ok(found) => match in_order(found) {
+            Ok(files) => Ok(files),
+            Err(_) => Err(FilesFault::Memory),
+        },
+        Err(WalkFault::Entries) => Err(FilesFault::Entries),
+        Err(WalkFault::Fault) => Err(FilesFault::Fault),
+        Err(WalkFault::Memory) => Err(FilesFault::Memory),
+    }
+}
+
+// Refuses the first file with a part `node_modules`, else the first that is too long.
+fn refuse(alloc: Global, files: &[PackageFile]) -> Result<(), FilesFault>
+    ensures clean { OnOk result (IsPassed (map file_of files.now)) }
+    ensures named { IfErr result (IsNamed (map file_of files.now)) }
+{
+    refuse_modules(alloc, files)?;
+    refuse_large(alloc, files)
+}
+
+fn refuse_modules(alloc: Global, files: &[PackageFile]) -> Result<(), FilesFault>
+    ensures none { OnOk result (find is_modular (map file_of files.now) ≡ None) }
+    ensures first { IfErr result (IsModular (find is_modular (map file_of files.now))) }
+{
+    for file in files {
+        if has_modules(&file.path) {
+            let path = file.path.copy(alloc)?;
+            return Err(FilesFault::Modules(path));
+        }
+    }
+    Ok(())
+}
+
+fn refuse_large(alloc: Global, files: &[PackageFile]) -> Result<(), FilesFault>
+    ensures none { OnOk result (find is_large (map file_of files.now) ≡ None) }
+    ensures first { IfErr result (IsLong (find is_large (map file_of files.now))) }
+{
+    for file in files {
+        if file.length > FILE_LIMIT {
+            let path = file.path.copy(alloc)?;
+            return Err(FilesFault::TooLarge(path, file.length));
+        }
+    }
+    Ok(())
+}
+
+impl From<Memory> for FilesFault {
+    ghost use Rattle.std.specs.Prelude.{◌≡◌};
+    ghost use Rattle.pn_registry.specs.declared.contents.FilesFault.TheVariants.{Memory as no_memory};
+
+    ghost from_gives = { λ _ e. e ≡ no_memory };
+
+    fn from(_: Memory) -> Self {
+        FilesFault::Memory
+    }
+}

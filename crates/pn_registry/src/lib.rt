@@ -1,0 +1,17 @@
+//! A registry: a tree in which the folder `/<name>/<version>` holds a package, a scoped name being two
+//! parts. The calls tell whether a package stands there, what its `package.json` says, and which files
+//! it has. They only read, and where the tree is told each answer and each refusal is exact.
+#![tactic(auto)]
+
+mod contents;
+mod folder;
+mod list;
+mod order;
+mod package;
+mod parts;
+mod walk;
+
+pub use contents::{FilesFault, files};
+pub use folder::stands;
+pub use list::{Files, PackageFile};
+pub use package::{PackageFault, manifest};

@@ -1,0 +1,135 @@
+// A package's own manifest.
+ghost use Rattle.std.specs.Prelude.{◌≡◌, OnOk, IfOk, IfErr, IfSome, Some, None, [], option_map};
+ghost use Rattle.serde_json.specs.Data.{Data};
+ghost use Rattle.semver.specs.Identifiers.{parts_of};
+ghost use Rattle.pn_fs.specs.Seen.{Keeps};
+ghost use Rattle.pn_registry.specs.Places.{manifest_path};
+ghost use Rattle.pn_registry.specs.Package.{IsRead, IsFound, has_text, stated_other};
+ghost use Rattle.pn_manifest.specs.Text.{IsObjectText};
+ghost use Rattle.pn_registry.specs.PackageFaults.{PackageRefused, TextRefused, IsOther};
+
+use crate::folder::manifest_path;
+use pn_fs::ReadFs;
+use pn_manifest::{ExactId, Manifest, ManifestFault};
+use pn_read::{SmallFault, read_small};
+use pn_text::{AbsPath, Memory, Text};
+use semver::Version;
+use std::alloc::Global;
+
+const TEXT_LIMIT: u64 = 16777216;
+
+/// Why a package has no manifest: no file `package.json`, a file of so many bytes, past 16,777,216; no
+/// JSON object; a wrong field and key, or `name` or `version` where it states another one or none; a
+/// failed call; no memory.
+#[derive(Drop)]
+pub enum PackageFault {
+    Missing,
+    TooLarge(u64),
+    NotJson,
+    BadField(Text, Text),
+    Fault,
+    Memory,
+}
+
+/// Reads the manifest of a package. It states the package's name and version.
+pub fn manifest<R: ReadFs>(
+    alloc: Global,
+    reg: &mut R,
+    id: &ExactId,
+) -> Result<Manifest, PackageFault>
+    ensures found { IfSome (R.seen reg.old).tree (λ t. IfOk result (IsFound id.now (t (manifest_path id.now)))) }
+    ensures read { IfOk result (λ m. (d : Data) × IsRead id.now d m) }
+    ensures kept { Keeps (R.seen reg.old) (R.seen reg.new) }
+    ensures fault { IfErr result (PackageRefused id.now (R.seen reg.old) (R.seen reg.new)) }
+{
+    match manifest_path(alloc, id) {
+        Ok(Some(path)) => read_at(alloc, reg, id, &path),
+        Ok(None) => Err(PackageFault::Missing),
+        Err(_) => Err(PackageFault::Memory),
+    }
+}
+
+fn read_at<R: ReadFs>(
+    alloc: Global,
+    reg: &mut R,
+    id: &ExactId,
+    path: &AbsPath,
+) -> Result<Manifest, PackageFault>
+    requires { path.now ≡ manifest_path id.now }
+    ensures found { IfSome (R.seen reg.old).tree (λ t. IfOk result (IsFound id.now (t (manifest_path id.now)))) }
+    ensures read { IfOk result (λ m. (d : Data) × IsRead id.now d m) }
+    ensures kept { Keeps (R.seen reg.old) (R.seen reg.new) }
+    ensures fault { IfErr result (PackageRefused id.now (R.seen reg.old) (R.seen reg.new)) }
+{
+    match read_small(alloc, reg, path, TEXT_LIMIT) {
+        Ok(bytes) => parse(alloc, id, bytes.as_slice()),
+        Err(SmallFault::Missing) => Err(PackageFault::Missing),
+        Err(SmallFault::TooLarge(length)) => Err(PackageFault::TooLarge(length)),
+        Err(SmallFault::Fault) => Err(PackageFault::Fault),
+        Err(SmallFault::Memory) => Err(PackageFault::Memory),
+    }
+}
+
+// The manifest that the bytes say.
+fn parse(alloc: Global, id: &ExactId, bytes: &[u8]) -> Result<Manifest, PackageFault>
+    ensures read { IfOk result (λ m. (d : Data) × IsObjectText bytes.now d × IsRead id.now d m) }
+    ensures refused { IfErr result (TextRefused id.now bytes.now) }
+{
+    match Manifest::read(alloc, bytes) {
+        Ok(manifest) => match states_own(alloc, id, &manifest) {
+            Ok(()) => Ok(manifest),
+            Err(fault) => Err(fault),
+        },
+        Err(ManifestFault::NotJson) => Err(PackageFault::NotJson),
+        Err(ManifestFault::BadField(field, key)) => Err(PackageFault::BadField(field, key)),
+        Err(ManifestFault::Memory) => Err(PackageFault::Memory),
+    }
+}
+
+// Refuses a manifest of another name or version.
+fn states_own(alloc: Global, id: &ExactId, manifest: &Manifest) -> Result<(), PackageFault>
+    ensures own { OnOk result (stated_other id.now manifest.now.name (option_map parts_of manifest.now.version) ≡ None) }
+    ensures other { IfErr result (IsOther (stated_other id.now manifest.now.name (option_map parts_of manifest.now.version))) }
+{
+    if !manifest.is_own(id.name()) {
+        return Err(bad_field(alloc, "name"));
+    }
+    if !has_version(alloc, &manifest.version, id.version())? {
+        return Err(bad_field(alloc, "version"));
+    }
+    Ok(())
+}
+
+// Whether a version has this text.
+fn has_version(alloc: Global, version: &Option<Version>, text: &Text) -> Result<bool, PackageFault>
+    ensures is { IfOk result (λ is. is ≡ has_text (option_map parts_of version.now) text.now) }
+    ensures memory { IfErr result (λ e. e ≡ PackageFault.Memory) }
+{
+    match version {
+        Some(version) => match version.to_string(alloc) {
+            Ok(stated) => Ok(stated.as_str() == text.as_str()),
+            Err(_) => Err(PackageFault::Memory),
+        },
+        None => Ok(false),
+    }
+}
+
+fn bad_field(alloc: Global, field: &str) -> PackageFault
+    ensures { IsOther (Some (field.now, [])) result }
+{
+    match (Text::of(alloc, field), Text::of(alloc, "")) {
+        (Ok(field), Ok(key)) => PackageFault::BadField(field, key),
+        _ => PackageFault::Memory,
+    }
+}
+
+impl From<Memory> for PackageFault {
+    ghost use Rattle.std.specs.Prelude.{◌≡◌};
+    ghost use Rattle.pn_registry.specs.declared.package.PackageFault.TheVariants.{Memory as no_memory};
+
+    ghost from_gives = { λ _ e. e ≡ no_memory };
+
+    fn from(_: Memory) -> Self {
+        PackageFault::Memory
+    }
+}
