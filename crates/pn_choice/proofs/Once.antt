@@ -1,0 +1,57 @@
+-- Ids, each once, and one more.
+use Rattle.std.proofs.Common.{◌≡◌, ℕ, List, [], ◌∷◌, ◌++◌, Bool, true, false, not, ◌||◌, cond, refl, ap, ◌∙◌, subst}
+use Rattle.std.specs.Str.{bytes_eq}
+use Rattle.std.proofs.lemmas.Slice.Eq.{bytes_eq-Decides}
+use Rattle.std.proofs.lemmas.List.{append-nil}
+use Rattle.std.proofs.lemmas.List.Elements.{filter-append}
+use Rattle.semver.proofs.Segments.{and-left, and-right}
+use Rattle.pn_manifest.specs.Exact.{Id}
+use Rattle.pn_choice.specs.Firsts.{same_id, without, firsts, is_in}
+
+pub same_id-is : (a b : Id) → same_id a b ≡ true → a ≡ b
+same_id-is a b h =
+    let n : a.name ≡ b.name = (bytes_eq-Decides a.name b.name).0 (and-left _ (bytes_eq a.version b.version) h) in
+    let v : a.version ≡ b.version = (bytes_eq-Decides a.version b.version).0 (and-right (bytes_eq a.name b.name) _ h) in
+    ap (λ (x : List ℕ). record { name = x; version = a.version }) n ∙ ap (λ (x : List ℕ). record { name = b.name; version = x }) v
+
+pub same_id-refl : (a : Id) → same_id a a ≡ true
+same_id-refl a =
+    let n : bytes_eq a.name a.name ≡ true = (bytes_eq-Decides a.name a.name).1 refl in
+    let v : bytes_eq a.version a.version ≡ true = (bytes_eq-Decides a.version a.version).1 refl in
+    rw (n, v) refl
+
+one_without : (x y : Id) (b : Bool) → same_id x y ≡ b → without x (y ∷ []) ≡ cond b [] (y ∷ [])
+one_without x y true h = rw h refl
+one_without x y false h = rw h refl
+
+-- taking another id away leaves it
+in_without : (y x : Id) (xs : List Id) → same_id y x ≡ false → is_in x (without y xs) ≡ is_in x xs
+in_without y x [] apart = refl
+in_without y x (z ∷ zs) apart = elim (same_id y z) as (λ b. same_id y z ≡ b → is_in x (cond (not b) (z ∷ without y zs) (without y zs)) ≡ (same_id z x || is_in x zs)) [
+  | true ↦ λ is. let e : same_id z x ≡ false = subst (λ (i : Id). same_id i x ≡ false) (same_id-is y z is) apart in in_without y x zs apart ∙ rw e refl
+  | false ↦ λ is. ap (λ b. same_id z x || b) (in_without y x zs apart)
+] refl
+
+-- one more at the end
+pub firsts_more : (xs : List Id) (x : Id) → firsts (xs ++ x ∷ []) ≡ cond (is_in x (firsts xs)) (firsts xs) (firsts xs ++ x ∷ [])
+firsts_more [] x = refl
+firsts_more (y ∷ xs) x =
+    ap (λ l. y ∷ without y l) (firsts_more xs x)
+    ∙ elim (same_id y x) as (λ b. same_id y x ≡ b → y ∷ without y (cond (is_in x (firsts xs)) (firsts xs) (firsts xs ++ x ∷ [])) ≡ cond (b || is_in x (without y (firsts xs))) (y ∷ without y (firsts xs)) ((y ∷ without y (firsts xs)) ++ x ∷ [])) [
+      | true ↦ λ is. same_last y x (firsts xs) (is_in x (firsts xs)) is
+      | false ↦ λ apart. rw (in_without y x (firsts xs) apart) (new_last y x (firsts xs) (is_in x (firsts xs)) apart)
+    ] refl
+  where
+    same_last : (y x : Id) (ys : List Id) (b : Bool) → same_id y x ≡ true → y ∷ without y (cond b ys (ys ++ x ∷ [])) ≡ y ∷ without y ys
+    same_last y x ys true is = refl
+    same_last y x ys false is = ap (λ l. y ∷ l) (filter-append (λ z. not (same_id y z)) ys (x ∷ []) ∙ ap (λ l. without y ys ++ l) (one_without y x true is) ∙ append-nil (without y ys))
+
+    new_last : (y x : Id) (ys : List Id) (b : Bool) → same_id y x ≡ false → y ∷ without y (cond b ys (ys ++ x ∷ [])) ≡ cond b (y ∷ without y ys) ((y ∷ without y ys) ++ x ∷ [])
+    new_last y x ys true apart = refl
+    new_last y x ys false apart = ap (λ l. y ∷ l) (filter-append (λ z. not (same_id y z)) ys (x ∷ []) ∙ ap (λ l. without y ys ++ l) (one_without y x false apart))
+
+pub firsts_known : (xs : List Id) (x : Id) → is_in x (firsts xs) ≡ true → firsts (xs ++ x ∷ []) ≡ firsts xs
+firsts_known xs x h = firsts_more xs x ∙ ap (λ b. cond b (firsts xs) (firsts xs ++ x ∷ [])) h
+
+pub firsts_new : (xs : List Id) (x : Id) → is_in x (firsts xs) ≡ false → firsts (xs ++ x ∷ []) ≡ firsts xs ++ x ∷ []
+firsts_new xs x h = firsts_more xs x ∙ ap (λ b. cond b (firsts xs) (firsts xs ++ x ∷ [])) h

@@ -1,0 +1,83 @@
+-- Causes at one state of the registry, and at an earlier one.
+use Rattle.std.proofs.Common.{◌≤◌, ℕ, List, Option, Some, None, Result, Ok, Err, IfErr, IfOk, OnOk, IfSome, length, refl, sym, ap, ◌∙◌, subst, arith}
+use Rattle.serde_json.specs.Data.{Data}
+use Rattle.pn_fs.specs.Tree.{Tree}
+use Rattle.pn_fs.specs.Seen.{Seen, Keeps}
+use Rattle.pn_manifest.specs.Exact.{Id, is_exact}
+use Rattle.pn_manifest.specs.Pairs.{but_own}
+use Rattle.pn_manifest.specs.Fields.{name_of}
+use Rattle.pn_manifest.specs.Says.{Says}
+use Rattle.pn_manifest.specs.declared.manifest.Manifest.{Manifest}
+use Rattle.pn_registry.specs.Places.{manifest_path}
+use Rattle.pn_registry.specs.Package.{IsRead, IsFound}
+use Rattle.pn_choice.specs.Edges.{id_text, edge_to}
+use Rattle.pn_choice.specs.Found.{HasFolder, HasManifest, IsPackage, NoPackage, NotBuilt, IsBuilt, IsUnbuilt}
+use Rattle.pn_choice.specs.Refusals.{Refuses}
+use Rattle.pn_choice.specs.declared.package.Package.{Package}
+use Rattle.pn_choice.specs.declared.fault.ReachFault.{ReachFault}
+use Rattle.pn_choice.specs.declared.fault.ReachFault.TheVariants.{NotYet, NoVersion, TextLimit, Manifest as wrong_manifest, Packages, Fault, Memory}
+
+pub refuses_from : (C : Option Tree → ReachFault → Type 0) (old mid new : Seen) (s : ReachFault) → Keeps old mid → Refuses C mid new s → Refuses C old new s
+refuses_from C old mid new (NotYet text) k h = subst (λ (r : Option Tree). C r (NotYet text)) k.tree h
+refuses_from C old mid new (NoVersion at) k h = subst (λ (r : Option Tree). C r (NoVersion at)) k.tree h
+refuses_from C old mid new (TextLimit n) k h = subst (λ (r : Option Tree). C r (TextLimit n)) k.tree h
+refuses_from C old mid new (wrong_manifest id why) k h = subst (λ (r : Option Tree). C r (wrong_manifest id why)) k.tree h
+refuses_from C old mid new (Packages n) k h = subst (λ (r : Option Tree). C r (Packages n)) k.tree h
+refuses_from C old mid new Fault k h = omega (arith, k.later, h)
+refuses_from C old mid new Memory k h = tt
+
+pub refuses_by : (C D : Option Tree → ReachFault → Type 0) (old new : Seen) (s : ReachFault) → (C old.tree s → D old.tree s) → Refuses C old new s → Refuses D old new s
+refuses_by C D old new (NotYet text) f h = f h
+refuses_by C D old new (NoVersion at) f h = f h
+refuses_by C D old new (TextLimit n) f h = f h
+refuses_by C D old new (wrong_manifest id why) f h = f h
+refuses_by C D old new (Packages n) f h = f h
+refuses_by C D old new Fault f h = h
+refuses_by C D old new Memory f h = tt
+
+pub if_err : {T E : Type 0} (P Q : E → Type 0) (r : Result T E) → ((e : E) → P e → Q e) → IfErr r P → IfErr r Q
+if_err P Q (Ok v) f h = tt
+if_err P Q (Err e) f h = f e h
+
+pub if_ok : {T E : Type 0} (P Q : T → Type 0) (r : Result T E) → ((v : T) → P v → Q v) → IfOk r P → IfOk r Q
+if_ok P Q (Ok v) f h = f v h
+if_ok P Q (Err e) f h = tt
+
+pub on_ok : {T E : Type 0} (P Q : Type 0) (r : Result T E) → (P → Q) → OnOk r P → OnOk r Q
+on_ok P Q (Ok v) f h = f h
+on_ok P Q (Err e) f h = tt
+
+-- What a manifest's read says of its value.
+pub record IsSaid (r : Option Tree) (id : Id) (m : Manifest) : Type 0 where
+  pub value : Data
+  pub manifest : HasManifest r id value
+  pub says : Says value m
+
+pub said_of : (r : Option Tree) (id : Id) (m : Manifest) → HasFolder r id → IfSome r (λ t. IsFound id (t (manifest_path id)) m) → (d : Data) × IsRead id d m → IsSaid r id m
+said_of None id m folder found read = record { value = read.0; manifest = record { stands = folder; text = tt; right = read.1.right }; says = read.1.says }
+said_of (Some t) id m folder found read = record { value = found.value; manifest = record { stands = folder; text = found.text; right = found.read.right }; says = found.read.says }
+
+pub package_of : (r : Option Tree) (id : Id) (m : Manifest) (p : Package) → IsSaid r id m → IsBuilt m.later (but_own m.name m.dependencies) id p → IsPackage r p
+package_of r id m p s b = record {
+  value = s.value;
+  manifest = subst (λ (i : Id). HasManifest r i s.value) (sym b.here) s.manifest;
+  built = sym s.says.later ∙ b.built;
+  edges = b.same ∙ ap (λ n. but_own n m.dependencies) s.says.name ∙ ap (but_own (name_of s.value)) s.says.dependencies;
+  exact = ap (λ (i : Id). is_exact i.version) b.here ∙ b.exact;
+  short = subst (λ (i : Id). length (id_text i) ≤ 120) (sym b.here) b.short;
+}
+
+pub unbuilt_of : (old new : Seen) (id : Id) (m : Manifest) (from : List ℕ) (fault : ReachFault) → IsSaid old.tree id m → IsUnbuilt m.later id fault → Refuses (λ r. NoPackage r (edge_to from id)) old new fault
+unbuilt_of old new id m from (NotYet text) s h = (s.value, s.manifest, subst (λ (o : Option (List ℕ)). NotBuilt o id text) s.says.later h)
+unbuilt_of old new id m from (NoVersion at) s h = absurd h
+unbuilt_of old new id m from (TextLimit n) s h = absurd h
+unbuilt_of old new id m from (wrong_manifest i why) s h = absurd h
+unbuilt_of old new id m from (Packages n) s h = absurd h
+unbuilt_of old new id m from Fault s h = absurd h
+unbuilt_of old new id m from Memory s h = tt
+
+pub keeps_on : (a b c : Seen) → Keeps a b → Keeps b c → Keeps a c
+keeps_on a b c h k = record { tree = k.tree ∙ h.tree; touched = k.touched ∙ h.touched; later = omega (arith, h.later, k.later) }
+
+pub keeps_same : (a : Seen) → Keeps a a
+keeps_same a = record { tree = refl; touched = refl; later = omega arith }

@@ -1,0 +1,8 @@
+pub mod Edges
+pub mod Firsts
+pub mod Found
+pub mod Walked
+pub mod Refusals
+pub mod Walks
+pub mod Reaches
+pub mod Keyed

@@ -1,0 +1,49 @@
+// Why the packages of a project aren't told.
+use pn_manifest::ExactId;
+use pn_text::{Edge, Memory, Text};
+use std::alloc::AllocFailed;
+
+/// What is wrong with a package's manifest: no file, no JSON object, or a field and a key in it (empty where the
+/// field itself is wrong).
+#[derive(Drop)]
+pub enum PackageWhy {
+    Missing,
+    NotJson,
+    BadField(Text, Text),
+}
+
+/// Why the packages of a project aren't told: a specifier or a field that isn't built yet; no folder at an edge's
+/// package; a manifest of so many bytes, past 16,777,216; a wrong manifest; so many packages, past 16,384; a
+/// failed call; no memory.
+#[derive(Drop)]
+pub enum ReachFault {
+    NotYet(Text),
+    NoVersion(Edge),
+    TextLimit(u64),
+    Manifest(ExactId, PackageWhy),
+    Packages(u64),
+    Fault,
+    Memory,
+}
+
+impl From<Memory> for ReachFault {
+    ghost use Rattle.std.specs.Prelude.{◌≡◌};
+    ghost use Rattle.pn_choice.specs.declared.fault.ReachFault.TheVariants.{Memory as no_memory};
+
+    ghost from_gives = { λ _ e. e ≡ no_memory };
+
+    fn from(_: Memory) -> Self {
+        ReachFault::Memory
+    }
+}
+
+impl<T: Drop> From<AllocFailed<T>> for ReachFault {
+    ghost use Rattle.std.specs.Prelude.{◌≡◌};
+    ghost use Rattle.pn_choice.specs.declared.fault.ReachFault.TheVariants.{Memory as no_memory};
+
+    ghost from_gives = { λ _ e. e ≡ no_memory };
+
+    fn from(_: AllocFailed<T>) -> Self {
+        ReachFault::Memory
+    }
+}

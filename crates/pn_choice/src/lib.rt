@@ -1,0 +1,19 @@
+//! The packages that a project reaches. A specifier is an exact version and means the registry's folder of
+//! that name and version. `reach` takes the project's edges, then those of each package in the order in which
+//! the packages are met, and reads a package's manifest at the edge that first meets it. Where the registry's
+//! tree is told, the packages are exactly the least set that is closed under dependencies (`reach_law`), and
+//! a refusal names the first edge that has a cause.
+#![tactic(auto)]
+
+mod fault;
+mod find;
+mod order;
+mod package;
+mod project;
+mod reached;
+mod walk;
+
+pub use fault::{PackageWhy, ReachFault};
+pub use package::Package;
+pub use project::{reach, reach_law};
+pub use reached::Reached;
