@@ -1,0 +1,14 @@
+pub mod Contents
+pub mod Bytes
+pub mod Versions
+pub mod Dirs
+pub mod Ways
+pub mod Plans
+pub mod Builds
+pub mod Slashes
+pub mod Drawings
+pub mod Within
+pub mod Once
+pub mod Leafs
+pub mod Entries
+pub mod Outcomes

@@ -1,0 +1,66 @@
+-- The plan of an install of one project: packages in the virtual store of its `node_modules`.
+use Rattle.std.specs.Prelude.{◌≡◌, ◌⊎◌, ℕ, List, [], ◌∷◌, ◌++◌, map, Option, Some, None, codes}
+use Rattle.std.specs.List.{Contains}
+use Rattle.pn_text.specs.Path.{Path}
+use Rattle.pn_fs.specs.Tree.{Entry, folder, file, link, Tree}
+use Rattle.pn_node.specs.Plan.{Instance, TopLink, Plan, InBuild}
+use Rattle.pn_plan.specs.Plan.{Plans}
+use Rattle.pn_plan.specs.Writes.{StandsAs}
+use Rattle.pn_plan.specs.declared.planned.Planned.{Planned}
+use Rattle.pn_plan.specs.declared.planned.What.{What}
+use Rattle.pn_plan.specs.declared.planned.What.TheVariants.{Folder, Copied}
+use Rattle.pn_manifest.specs.Pairs.{Pair}
+use Rattle.pn_layout.specs.declared.packages.Package.{Package}
+use Rattle.pn_layout.specs.Store.{store_of, dir_name, home_of}
+use Rattle.pn_layout.specs.Sound.{called}
+
+-- the marker of a managed folder
+abbrev pub marker_text : List ℕ
+marker_text = codes "pnpm-rs 1" ++ 10 ∷ []
+
+-- a file's bytes; none where there is no file
+abbrev pub file_bytes : Option Entry → List ℕ
+file_bytes None = []
+file_bytes (Some folder) = []
+file_bytes (Some (file bytes)) = bytes
+file_bytes (Some (link text)) = []
+
+-- a package with the registry's files, and a link for each dependency to its package folder
+abbrev pub instance_of : Tree → Path → Package → Instance
+instance_of r top p = record {
+  dir = dir_name (called p);
+  name = p.name;
+  files = map (λ (f : Path). (f, file_bytes (r (f ++ p.folder)))) p.files.items;
+  links = map (λ (d : Pair). (d.0, home_of top d)) p.dependencies;
+}
+
+-- a project's link to a direct dependency
+abbrev pub top_of : Path → Pair → TopLink
+top_of top d = record { holder = top; name = d.0; target = home_of top d }
+
+-- The `node_modules` at top is managed and marked.
+abbrev pub plan_of : Tree → Path → List Pair → List Package → Plan
+plan_of r top direct packages = record {
+  store = store_of top;
+  managed = top ∷ [];
+  markers = (top, marker_text) ∷ [];
+  instances = map (instance_of r top) packages;
+  tops = map (top_of top) direct;
+}
+
+-- What is planned is the build, with copies of what the registry r has.
+pub record IsLaidOut (r : Tree) (plan : Plan) (planned : List Planned) : Type 0 where
+  pub sound : (q : Path) (w : What) → Plans planned q w → (e : Entry) × InBuild plan q e × StandsAs (Some r) w (Some e)
+  pub complete : (q : Path) (e : Entry) → InBuild plan q e → (w : What) × Plans planned q w × StandsAs (Some r) w (Some e)
+
+-- the registry's path of a package's file
+abbrev pub IsFileOf : List Package → Path → Type 0
+IsFileOf packages path = (p : Package) × (f : Path) × Contains packages p × Contains p.files.items f × (path ≡ f ++ p.folder)
+
+-- All that is planned is the folder at top or below it, in a folder that is planned too. Only files of
+-- the packages are copied.
+pub record IsClosed (top : Path) (packages : List Package) (planned : List Planned) : Type 0 where
+  pub managed : Plans planned top Folder
+  pub within : (q : Path) (w : What) → Plans planned q w → (r : Path) × (q ≡ r ++ top)
+  pub parents : (x : List ℕ) (q : Path) (w : What) → Plans planned (x ∷ q) w → (x ∷ q ≡ top) ⊎ Plans planned q Folder
+  pub copied : (q c : Path) → Plans planned q (Copied c) → IsFileOf packages c

@@ -1,0 +1,17 @@
+// What is known of the plan of an install.
+ghost use Rattle.pn_layout.specs.Laws.{SoundLaw, LandsLaw, BuiltLaw};
+
+/// The plan of sound packages is one in which Node finds each dependency.
+pub fn sound_law()
+    ensures { SoundLaw }
+{}
+
+/// Where all dependencies are among the packages, each link leads to a folder.
+pub fn lands_law()
+    ensures { LandsLaw }
+{}
+
+/// What is planned, written to a tree without the managed folder, gives the build and changes nothing else.
+pub fn built_law()
+    ensures { BuiltLaw }
+{}
