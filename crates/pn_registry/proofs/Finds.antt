@@ -27,14 +27,14 @@ find_none so (x ∷ fs) h f i = let n = neither (so x) x (find so fs) h in elim 
   | inr j ↦ find_none so fs n.1 f j
 ]
 
-all_in : (P : List ℕ → Type 0) (fs : List File) (g : File) → AllByRecursion P (map (λ (f : File). text_below f.0) fs) → Contains fs g → P (text_below g.0)
+pub all_in : (P : List ℕ → Type 0) (fs : List File) (g : File) → AllByRecursion P (map (λ (f : File). text_below f.0) fs) → Contains fs g → P (text_below g.0)
 all_in P [] g h i = absurd (none_in g i)
 all_in P (f ∷ fs) g h i = elim (in_cons f fs g i) [ inl e ↦ subst (λ (z : File). P (text_below z.0)) e h.0 | inr j ↦ all_in P fs g h.1 j ]
 
-not_before_itself : (x : List ℕ) → slice_cmp nat_cmp x x ≡ Less → ⊥
+pub not_before_itself : (x : List ℕ) → slice_cmp nat_cmp x x ≡ Less → ⊥
 not_before_itself x h = let same = tied_itself nat_list_cmp_total x in cc (same, h)
 
-not_before_back : (x y : List ℕ) → slice_cmp nat_cmp x y ≡ Less → slice_cmp nat_cmp y x ≡ Less → ⊥
+pub not_before_back : (x y : List ℕ) → slice_cmp nat_cmp x y ≡ Less → slice_cmp nat_cmp y x ≡ Less → ⊥
 not_before_back x y h i = not_before_itself x (nat_list_cmp_total.trans x y x h i)
 
 -- what was found, and that nothing of the kind comes before it

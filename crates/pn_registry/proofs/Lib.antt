@@ -9,3 +9,5 @@ pub mod Texts
 pub mod Leads
 pub mod Refusals
 pub mod Clean
+pub mod Above
+pub mod Keeping

@@ -36,21 +36,21 @@ rising_files (f ∷ fs) h = (below_all (text_of f) fs h.0, rising_files fs h.1)
 pub rising_once : (fs : List PackageFile) → IsSorted (λ a b. slice_cmp nat_cmp (text_of a) (text_of b)) fs → IsRising (map file_of (dedup (λ a b. pointwise nat_eq (text_of a) (text_of b)) fs))
 rising_once fs h = rising_files _ (IsStrictlySortedBy-dedup (on_total text_of nat_list_cmp_total) (λ x y. texts_ties (text_of x) (text_of y)) fs h)
 
-in_map : {X Y : Type 0} (g : X → Y) (xs : List X) (y : Y) → Contains (map g xs) y → (x : X) × Contains xs x × (g x ≡ y)
+pub in_map : {X Y : Type 0} (g : X → Y) (xs : List X) (y : Y) → Contains (map g xs) y → (x : X) × Contains xs x × (g x ≡ y)
 in_map g [] y h = absurd (none_in y h)
 in_map g (x ∷ xs) y h = elim (in_cons (g x) (map g xs) y h) [
   | inl e ↦ (x, here x xs, e)
   | inr i ↦ let r = in_map g xs y i in (r.0, there x xs r.0 r.1, r.2)
 ]
 
-to_map : {X Y : Type 0} (g : X → Y) (xs : List X) (x : X) → Contains xs x → Contains (map g xs) (g x)
+pub to_map : {X Y : Type 0} (g : X → Y) (xs : List X) (x : X) → Contains xs x → Contains (map g xs) (g x)
 to_map g [] x h = absurd (none_in x h)
 to_map g (y ∷ ys) x h = elim (in_cons y ys x h) [
   | inl e ↦ subst (λ z. Contains (map g (y ∷ ys)) (g z)) e (here (g y) (map g ys))
   | inr i ↦ there (g y) (map g ys) (g x) (to_map g ys x i)
 ]
 
-same_text : (x y : List ℕ) → pointwise nat_eq x y ≡ true → x ≡ y
+pub same_text : (x y : List ℕ) → pointwise nat_eq x y ≡ true → x ≡ y
 same_text x y h = (bytes_eq-Decides x y).0 h
 
 -- sorting and leaving out repeated paths keeps each path

@@ -5,11 +5,11 @@ use Rattle.pn_text.specs.Path.{Path, is_path, path_text, text_below, SpellsAbs, 
 use Rattle.pn_registry.specs.Below.{IsWithin}
 use Rattle.pn_registry.proofs.Orders.{path_front, same_path}
 
-text_below-append : (q p : Path) → text_below (q ++ p) ≡ text_below p ++ text_below q
+pub text_below-append : (q p : Path) → text_below (q ++ p) ≡ text_below p ++ text_below q
 text_below-append [] p = sym (append-nil (text_below p))
 text_below-append (x ∷ q) p = ap (λ t. t ++ 47 ∷ x) (text_below-append q p) ∙ append_assoc (text_below p) (text_below q) (47 ∷ x)
 
-below_begins : (x : List ℕ) (p : Path) → (rest : List ℕ) × (text_below (x ∷ p) ≡ 47 ∷ rest)
+pub below_begins : (x : List ℕ) (p : Path) → (rest : List ℕ) × (text_below (x ∷ p) ≡ 47 ∷ rest)
 below_begins x [] = (x, refl)
 below_begins x (y ∷ p) = let b = below_begins y p in (b.0 ++ 47 ∷ x, ap (λ t. t ++ 47 ∷ x) b.1)
 

@@ -6,3 +6,4 @@ pub mod Listed
 pub mod Below
 pub mod Turns
 pub mod FilesFaults
+pub mod Apart

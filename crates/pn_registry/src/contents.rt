@@ -6,13 +6,14 @@ ghost use Rattle.pn_fs.specs.Tree.{folder};
 ghost use Rattle.pn_fs.specs.Seen.{Keeps};
 ghost use Rattle.pn_registry.specs.Places.{package_folder};
 ghost use Rattle.pn_registry.specs.Files.{IsFilesOf, IsClean};
+ghost use Rattle.pn_registry.specs.Apart.{AreApart};
 ghost use Rattle.pn_registry.specs.Below.{HasFew};
 ghost use Rattle.pn_registry.specs.Listed.{file_of};
 ghost use Rattle.pn_registry.specs.FilesFaults.{FilesRefused, NotWalked, IsModular, IsLong, IsPassed, IsNamed, is_modular, is_large, entry_limit};
 
+use crate::apart::in_order_apart;
 use crate::folder::package_folder;
 use crate::list::{Files, PackageFile};
-use crate::order::in_order;
 use crate::parts::has_modules;
 use crate::walk::{WalkFault, walk};
 use pn_fs::ReadFs;
@@ -36,12 +37,13 @@ pub enum FilesFault {
     Memory,
 }
 
-/// All the files at any depth below a package's folder. Links are passed over.
+/// All the files at any depth below a package's folder, none below another one. Links are passed over.
 pub fn files<R: ReadFs>(alloc: Global, reg: &mut R, id: &ExactId) -> Result<Files, FilesFault>
     requires { ForSome (R.seen reg.old).tree (λ t. t (package_folder id.now) ≡ Some folder) }
     ensures files { IfSome (R.seen reg.old).tree (λ t. IfOk result (IsFilesOf t (package_folder id.now))) }
     ensures few { IfSome (R.seen reg.old).tree (λ t. OnOk result (HasFew t (package_folder id.now) entry_limit)) }
     ensures clean { IfOk result (All IsClean) }
+    ensures apart { IfOk result AreApart }
     ensures kept { Keeps (R.seen reg.old) (R.seen reg.new) }
     ensures fault { IfErr result (FilesRefused (package_folder id.now) (R.seen reg.old) (R.seen reg.new)) }
 {
@@ -58,6 +60,7 @@ fn files_at<R: ReadFs>(alloc: Global, reg: &mut R, at: &AbsPath) -> Result<Files
     ensures files { IfSome (R.seen reg.old).tree (λ t. IfOk result (IsFilesOf t at.now)) }
     ensures few { IfSome (R.seen reg.old).tree (λ t. OnOk result (HasFew t at.now entry_limit)) }
     ensures clean { IfOk result (All IsClean) }
+    ensures apart { IfOk result AreApart }
     ensures kept { Keeps (R.seen reg.old) (R.seen reg.new) }
     ensures fault { IfErr result (FilesRefused at.now (R.seen reg.old) (R.seen reg.new)) }
 {
@@ -75,11 +78,12 @@ fn all_files<R: ReadFs>(alloc: Global, reg: &mut R, at: &AbsPath) -> Result<File
     requires deep { at.now ≢ [] }
     ensures files { IfSome (R.seen reg.old).tree (λ t. IfOk result (IsFilesOf t at.now)) }
     ensures few { IfSome (R.seen reg.old).tree (λ t. OnOk result (HasFew t at.now entry_limit)) }
+    ensures apart { IfOk result AreApart }
     ensures kept { Keeps (R.seen reg.old) (R.seen reg.new) }
     ensures fault { IfErr result (NotWalked at.now (R.seen reg.old) (R.seen reg.new)) }
 {
     match walk(alloc, reg, at, ENTRY_LIMIT) {
-        Ok(found) => match in_order(found) {
+        Ok(found) => match in_order_apart(alloc, found) {
             Ok(files) => Ok(files),
             Err(_) => Err(FilesFault::Memory),
         },

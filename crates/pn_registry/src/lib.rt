@@ -3,12 +3,15 @@
 //! it has. They only read, and where the tree is told each answer and each refusal is exact.
 #![tactic(auto)]
 
+mod apart;
 mod contents;
 mod folder;
 mod list;
 mod order;
 mod package;
 mod parts;
+#[cfg(test)]
+mod tests;
 mod walk;
 
 pub use contents::{FilesFault, files};

@@ -49,6 +49,14 @@ impl Files {
         self.items.as_slice()
     }
 
+    /// The files themselves, in order.
+    pub fn into_items(self) -> Vec<PackageFile>
+        ensures files { map file_of result.items ≡ self }
+        ensures rising { IsRising self }
+    {
+        self.items
+    }
+
     pub fn len(&self) -> usize
         ensures { result ≡ length self.now }
     {
