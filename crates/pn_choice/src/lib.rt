@@ -14,6 +14,9 @@ mod reached;
 mod walk;
 
 pub use fault::{PackageWhy, ReachFault};
-pub use package::Package;
+pub use package::{Package, id_text};
 pub use project::{reach, reach_law};
 pub use reached::Reached;
+
+#[cfg(test)]
+mod tests;
