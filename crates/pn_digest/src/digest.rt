@@ -1,0 +1,60 @@
+// Digests.
+ghost use Rattle.std.specs.Prelude.{◌≡◌, IfOk};
+ghost use Rattle.hex.specs.Hex.{encode_lower};
+ghost use Rattle.pn_digest.specs.Digests.{IsDigest};
+
+use pn_text::{Memory, Text};
+use std::alloc::Global;
+use std::marker::Model;
+
+/// A digest of 64 bytes. Contracts see the list of them. Digests are in the order of their bytes.
+#[derive(Clone, Copy, Debug, PartialEq, Eq, PartialOrd, Ord)]
+pub struct Digest {
+    bytes: [u8; 64],
+}
+
+impl Model for Digest {
+    ghost use Rattle.std.specs.Prelude.{ℕ, List};
+    ghost use Rattle.pn_digest.specs.Digests.{IsDigest};
+
+    ghost Value = { List ℕ };
+
+    ghost view = { λ a. a.bytes };
+
+    ghost invariant = { λ a. IsDigest a.bytes };
+
+    ghost inverse = { λ d. record { bytes = d } };
+}
+
+impl Digest {
+    /// The digest with these bytes.
+    pub fn of(bytes: [u8; 64]) -> Digest
+        ensures bytes { result ≡ bytes }
+        ensures digest { IsDigest result }
+    {
+        Digest { bytes }
+    }
+
+    /// The bytes, which are 64.
+    pub fn as_bytes(&self) -> &[u8; 64]
+        ensures bytes { result.now ≡ self.now }
+        ensures digest { IsDigest self.now }
+    {
+        &self.bytes
+    }
+
+    /// An equal digest.
+    pub fn copy(&self) -> Digest
+        ensures { result ≡ self.now }
+    {
+        *self
+    }
+
+    /// The 128 hex digits of the bytes, in lower case.
+    pub fn hex(&self, alloc: Global) -> Result<Text, Memory>
+        ensures { IfOk result (λ text. text ≡ encode_lower self.now) }
+    {
+        let text = hex::encode(alloc, self.bytes.as_slice())?;
+        Text::of(alloc, text.as_str())
+    }
+}

@@ -1,0 +1,13 @@
+//! Digests of bytes under SHA-512, and the integrities that lockfiles write for them.
+//!
+//! A digest is 64 bytes, and contracts see those. A hasher holds the bytes that were pushed, and its end is their digest.
+//! An integrity's text is `sha512-` and the padded base64 of its digest, and no other text is read as one.
+#![tactic(auto)]
+
+mod digest;
+mod hasher;
+mod integrity;
+
+pub use digest::Digest;
+pub use hasher::Hasher512;
+pub use integrity::{Integrity, integrity_law};
