@@ -1,5 +1,8 @@
 // Integrities.
-ghost use Rattle.std.specs.Prelude.{◌≡◌, ◌↔◌, ℕ, List, Some, IfOk, take};
+ghost use Rattle.std.specs.Prelude.{◌≡◌, ◌==◌, ◌↔◌, ℕ, List, Some, IfOk, take};
+ghost use Rattle.std.proofs.Common.{rules};
+ghost use Rattle.std.specs.Cmp.Lexicographic.{pointwise};
+ghost use Rattle.std.specs.Cmp.Rules.{comparing};
 ghost use Rattle.base64.specs.Engines.{standard};
 ghost use Rattle.base64.specs.GeneralPurpose.{encode_of};
 ghost use Rattle.pn_digest.specs.Digests.{IsDigest, integrity_text, IntegrityLaw};
@@ -11,7 +14,7 @@ use std::alloc::Global;
 use std::marker::Model;
 
 /// The integrity of bytes: their digest, which is written as `sha512-` and its padded base64. Contracts see the digest.
-#[derive(Clone, Copy, Debug, PartialEq, Eq)]
+#[derive(Clone, Copy, Debug)]
 pub struct Integrity {
     digest: Digest,
 }
@@ -59,6 +62,20 @@ impl Integrity {
         STANDARD.encode_string(self.digest.as_bytes(), &mut text)?;
         Text::of(alloc, text.as_str())
     }
+}
+
+impl PartialEq for Integrity {
+    ghost eq = { pointwise ◌==◌ };
+
+    ghost laws = { Prim.search (comparing, rules) };
+
+    fn eq(&self, other: &Integrity) -> bool {
+        self.digest == other.digest
+    }
+}
+
+impl Eq for Integrity {
+    ghost laws = { Prim.search (comparing, rules) };
 }
 
 /// No two digests have the same integrity.

@@ -11,3 +11,6 @@ mod integrity;
 pub use digest::Digest;
 pub use hasher::Hasher512;
 pub use integrity::{Integrity, integrity_law};
+
+#[cfg(test)]
+mod tests;
