@@ -1,0 +1,202 @@
+-- The packages of an install are sound and whole.
+use Rattle.std.proofs.Common.{◌≡◌, ◌≢◌, ◌<◌, ℕ, List, [], ◌∷◌, ◌++◌, Bool, true, false, not, Option, Some, None, Result, Ok, Err, IfOk, OnOk, map, length, get_or, refl, sym, ap, ◌∙◌, subst, arith, codes, IsPermutation, IsSorted, ⊎_elim}
+use Rattle.std.specs.List.{All, Contains, IsDistinct}
+use Rattle.std.specs.Cmp.Lexicographic.{slice_cmp}
+use Rattle.std.specs.Ordering.{nat_cmp}
+use Rattle.std.proofs.lemmas.Bool.{cases_lt}
+use Rattle.std.proofs.lemmas.List.{get_or-map, get_or_default, length-map}
+use Rattle.std.proofs.lemmas.List.Elements.{All-nil, All-cons, All-contains, All-contains_itself, All-weaker, All-map, filter_passes}
+use Rattle.std.proofs.lemmas.List.Sorted.{IsPermutation-map, IsPermutation-sym, Contains-permutation}
+use Rattle.std.proofs.lemmas.Map.Keys.{IsDistinct-IsPermutation, apart_from_distinct}
+use Rattle.serde_json.specs.Data.{Data}
+use Rattle.pn_fs.specs.Tree.{Tree}
+use Rattle.pn_manifest.specs.Exact.{Id}
+use Rattle.pn_manifest.specs.Fields.{or_else, first_wrong, name_of, version_of, dependencies_of, edges_of}
+use Rattle.pn_manifest.specs.Pairs.{Pair, IsRising, is_own}
+use Rattle.pn_registry.specs.Package.{unless, other_of, first_wrong_of}
+use Rattle.pn_choice.specs.Edges.{id_of, id_text, target, targets, edge_of, edges_from, package_edges, edges_in, all_edges, package_text}
+use Rattle.pn_choice.specs.Firsts.{same_id}
+use Rattle.pn_choice.specs.Found.{IsPackage}
+use Rattle.pn_choice.specs.Walked.{IsReached}
+use Rattle.pn_choice.specs.Reaches.{pair_id}
+use Rattle.pn_choice.specs.declared.package.Package.{Package as Found}
+use Rattle.pn_choice.proofs.Once.{same_id-refl}
+use Rattle.pn_layout.specs.declared.packages.Package.{Package}
+use Rattle.pn_layout.specs.Sound.{called, IsSoundPair, AreSoundDependencies, IsSoundPackage, AreSound, IsAmong, AreWhole, FilesStand}
+use Rattle.pn_collect.specs.Outline.{Outline, outline, wanted, called_text, IsMade, HasFiles, HaveFiles}
+use Rattle.pn_collect.proofs.Lists.{All-unmap, All-left, All-right, from_image, true_false, same_id-flips, firsts_all, distinct_firsts}
+
+-- These packages are those that are reached, in some order.
+pub record IsOf (r : Option Tree) (own : List Pair) (met : List Found) (v : List Package) : Type 0 where
+  pub sorted : List Found
+  pub reached : IsReached r own met
+  pub order : IsPermutation met sorted
+  pub same : map outline v ≡ map wanted sorted
+  pub made : All IsMade v
+
+origin : {r : Option Tree} {own : List Pair} {met : List Found} {v : List Package} → IsOf r own met v → (p : Package) → Contains v p → (q : Found) × Contains met q × (wanted q ≡ outline p)
+origin {r} {own} {met} {v} h p c =
+    let back = All-weaker (Contains h.sorted) (Contains met) (λ q. Contains-permutation h.sorted met q (IsPermutation-sym met h.sorted h.order)) h.sorted (All-contains_itself h.sorted) in
+    let all = All-map (λ (o : Outline). (q : Found) × Contains met q × (wanted q ≡ o)) wanted h.sorted (All-weaker (Contains met) (λ z. (q : Found) × Contains met q × (wanted q ≡ wanted z)) (λ z m. (z, m, refl)) h.sorted back) in
+    All-contains (λ p. (q : Found) × Contains met q × (wanted q ≡ outline p)) v p
+    (All-unmap (λ (o : Outline). (q : Found) × Contains met q × (wanted q ≡ o)) outline v (subst (All (λ (o : Outline). (q : Found) × Contains met q × (wanted q ≡ o))) (sym h.same) all)) c
+
+image : {r : Option Tree} {own : List Pair} {met : List Found} {v : List Package} → IsOf r own met v → (q : Found) → Contains met q → (p : Package) × Contains v p × (outline p ≡ wanted q)
+image {r} {own} {met} {v} h q c =
+    let all = All-map (λ (o : Outline). (p : Package) × Contains v p × (outline p ≡ o)) outline v (All-weaker (Contains v) (λ z. (p : Package) × Contains v p × (outline p ≡ outline z)) (λ z m. (z, m, refl)) v (All-contains_itself v)) in
+    All-contains (λ q. (p : Package) × Contains v p × (outline p ≡ wanted q)) h.sorted q
+    (All-unmap (λ (o : Outline). (p : Package) × Contains v p × (outline p ≡ o)) wanted h.sorted (subst (All (λ (o : Outline). (p : Package) × Contains v p × (outline p ≡ o))) h.same all)) (Contains-permutation met h.sorted q h.order c)
+
+among : {r : Option Tree} {own : List Pair} {met : List Found} {v : List Package} → IsOf r own met v → (d : Pair) → Contains (map id_of met) (pair_id d) → IsAmong v d
+among {r} {own} {met} {v} h d c =
+    let q = from_image id_of met (pair_id d) c in
+    let p = image h q.0 q.1 in
+    (p.0, p.1, ap (λ (o : Outline). o.pair) p.2 ∙ ap (λ (i : Id). (i.name, i.version)) q.2)
+
+-- the packages that edges lead to are among the ids
+led : (r : Option Tree) (own : List Pair) (met : List Found) → IsReached r own met → All (λ e. Contains (map id_of met) (target e)) (all_edges own met)
+led r own met h =
+    let all = targets (all_edges own met) in
+    All-unmap (Contains (map id_of met)) target (all_edges own met) (subst (λ (l : List Id). All (Contains l) all) (sym h.walked.ids) (firsts_all all))
+
+rest_led : (ids : List Id) (ps : List Found) → All (λ e. Contains ids (target e)) (edges_in ps) → All (λ (q : Found). All (λ d. Contains ids (pair_id d)) q.dependencies) ps
+rest_led ids [] h = All-nil (λ (q : Found). All (λ d. Contains ids (pair_id d)) q.dependencies)
+rest_led ids (q ∷ ps) h = All-cons (λ (q : Found). All (λ d. Contains ids (pair_id d)) q.dependencies) q ps
+    (All-unmap (λ e. Contains ids (target e)) (edge_of (id_text q.id)) q.dependencies (All-left (λ e. Contains ids (target e)) (package_edges q) (edges_in ps) h))
+    (rest_led ids ps (All-right (λ e. Contains ids (target e)) (package_edges q) (edges_in ps) h))
+
+pub whole : {r : Option Tree} {own : List Pair} {met : List Found} {v : List Package} → IsOf r own met v → AreWhole own v
+whole {r} {own} {met} {v} h =
+    let ids = map id_of met in
+    let all = led r own met h.reached in
+    let first = All-unmap (λ e. Contains ids (target e)) (edge_of (codes ".")) own (All-left (λ e. Contains ids (target e)) (edges_from (codes ".") own) (edges_in met) all) in
+    let rest = rest_led ids met (All-right (λ e. Contains ids (target e)) (edges_from (codes ".") own) (edges_in met) all) in
+    record {
+      project = λ d c. among h d (All-contains (λ d. Contains ids (pair_id d)) own d first c);
+      others = λ p d c m.
+          let q = origin h p c in
+          let its = All-contains (λ (q : Found). All (λ d. Contains ids (pair_id d)) q.dependencies) met q.0 rest q.1 in
+          among h d (All-contains (λ d. Contains ids (pair_id d)) q.0.dependencies d its (subst (λ (l : List Pair). Contains l d) (sym (ap (λ (o : Outline). o.dependencies) q.2)) m));
+    }
+
+sound_among : (v : List Package) (d : Pair) → All IsMade v → IsAmong v d → IsSoundPair d
+sound_among v d made a = subst IsSoundPair a.2 (All-contains IsMade v a.0 made a.1).pair
+
+pub direct : {r : Option Tree} {own : List Pair} {met : List Found} {v : List Package} → IsOf r own met v → IsRising own → AreSoundDependencies own
+direct {r} {own} {met} {v} h rising = record { rising = rising; each = λ d c. sound_among v d h.made ((whole h).project d c) }
+
+or_none : {A : Type 0} (a b : Option A) → or_else a b ≡ None → (a ≡ None) × (b ≡ None)
+or_none None b h = (refl, h)
+or_none (Some x) b h = absurd (cc h)
+
+unless_none : (b : Bool) (key : List ℕ) → unless b key ≡ None → b ≡ true
+unless_none true key h = refl
+unless_none false key h = absurd (cc h)
+
+-- no edge leads to the package's own name
+not_own : (id : Id) (value : Data) (d : Pair) → first_wrong_of id value ≡ None → Contains (edges_of value) d → d.0 ≢ id.name
+not_own id value d right c e =
+    let other = (or_none (first_wrong value) (other_of id value) right).1 in
+    let own : is_own (name_of value) id.name ≡ true = unless_none (is_own (name_of value) id.name) (codes "name") (or_none (unless (is_own (name_of value) id.name) (codes "name")) (unless (is_own (version_of value) id.version) (codes "version")) other).0 in
+    let passes : not (is_own (name_of value) d.0) ≡ true = All-contains (λ (e : Pair). not (is_own (name_of value) e.0) ≡ true) (edges_of value) d (filter_passes (λ (e : Pair). not (is_own (name_of value) e.0)) (dependencies_of value)) c in
+    let same : not (is_own (name_of value) d.0) ≡ false = ap (λ x. not (is_own (name_of value) x)) e ∙ ap not own in
+    true_false (sym passes ∙ same)
+
+sound_package : {r : Option Tree} {own : List Pair} {met : List Found} {v : List Package} → IsOf r own met v → (p : Package) → Contains v p → IsSoundPackage p
+sound_package {r} {own} {met} {v} h p c =
+    let m = All-contains IsMade v p h.made c in
+    let q = origin h p c in
+    let found = All-contains (IsPackage r) met q.0 h.reached.walked.found q.1 in
+    let edges : p.dependencies ≡ edges_of found.value = sym (ap (λ (o : Outline). o.dependencies) q.2) ∙ found.edges in
+    let name : q.0.id.name ≡ p.name = ap (λ (o : Outline). o.pair.0) q.2 in
+    record {
+      pair = m.pair;
+      dependencies = record { rising = m.rising; each = λ d k. sound_among v d h.made ((whole h).others p d c k) };
+      others = λ d k e. not_own q.0.id found.value d found.manifest.right (subst (λ (l : List Pair). Contains l d) edges k) (e ∙ sym name);
+      files = m.files.each;
+      apart = m.files.apart;
+      short = m.files.short;
+    }
+
+key : Package → Id
+key p = record { name = p.name; version = p.version }
+
+out_id : Outline → Id
+out_id o = pair_id o.pair
+
+keys_of : (v : List Package) → map key v ≡ map out_id (map outline v)
+unfolding key out_id
+keys_of [] = refl
+keys_of (p ∷ v) = ap (λ (l : List Id). key p ∷ l) (keys_of v)
+
+ids_of : (qs : List Found) → map out_id (map wanted qs) ≡ map id_of qs
+unfolding out_id
+ids_of [] = refl
+ids_of (q ∷ qs) = ap (λ (l : List Id). q.id ∷ l) (ids_of qs)
+
+distinct : {r : Option Tree} {own : List Pair} {met : List Found} {v : List Package} → IsOf r own met v → IsDistinct same_id (map key v)
+distinct {r} {own} {met} {v} h =
+    let first : IsDistinct same_id (map id_of met) = subst (IsDistinct same_id) (sym h.reached.walked.ids) (distinct_firsts (targets (all_edges own met))) in
+    subst (IsDistinct same_id) (sym (keys_of v ∙ ap (map out_id) h.same ∙ ids_of h.sorted)) (IsDistinct-IsPermutation same_id same_id-flips (map id_of met) (map id_of h.sorted) (IsPermutation-map id_of met h.sorted h.order) first)
+
+-- an earlier one has another id
+before : (v : List Package) (p q : Package) (k l : ℕ) → IsDistinct same_id (map key v) → k < l → l < length v → get_or v k p ≡ p → get_or v l q ≡ q → called p ≡ called q → ⊥
+unfolding key
+before v p q k l h low high a b e =
+    let i : get_or (map key v) k (key p) ≡ key p = get_or-map key v k p (key p) (omega arith) ∙ ap key a in
+    let j : get_or (map key v) l (key p) ≡ key q = get_or-map key v l q (key p) high ∙ ap key b in
+    let apart = apart_from_distinct same_id (map key v) k l (key p) h low (omega (arith, length-map v key)) in
+    let same : key p ≡ key q = ap pair_id e in
+    let is : same_id (get_or (map key v) k (key p)) (get_or (map key v) l (key p)) ≡ true = ap (λ (x : Id). same_id x (get_or (map key v) l (key p))) (i ∙ same ∙ sym j) ∙ same_id-refl (get_or (map key v) l (key p)) in
+    true_false (sym is ∙ apart)
+
+apart : (v : List Package) (p q : Package) → IsDistinct same_id (map key v) → Contains v p → Contains v q → called p ≡ called q → p ≡ q
+apart v p q h c m e = ⊎_elim
+    (λ low. absurd (before v p q c.0 m.0 h low m.1 c.2 m.2 e))
+    (λ le. ⊎_elim
+    (λ low. absurd (before v q p m.0 c.0 h low c.1 m.2 c.2 (sym e)))
+    (λ ge. let one : c.0 ≡ m.0 = omega arith in sym c.2 ∙ get_or_default v c.0 p q c.1 ∙ ap (λ (n : ℕ). get_or v n q) one ∙ m.2)
+    (cases_lt m.0 c.0))
+    (cases_lt c.0 m.0)
+
+pub sound : {r : Option Tree} {own : List Pair} {met : List Found} {v : List Package} → IsOf r own met v → AreSound v
+sound {r} {own} {met} {v} h = record { each = sound_package h; apart = λ p q c m e. apart v p q (distinct h) c m e }
+
+pub exact : {r : Option Tree} {own : List Pair} {met : List Found} {v : List Package} → IsOf r own met v → IsPermutation (map wanted met) (map outline v)
+exact {r} {own} {met} {v} h = subst (IsPermutation (map wanted met)) (sym h.same) (IsPermutation-map wanted met h.sorted h.order)
+
+out_text : Outline → List ℕ
+out_text o = o.pair.0 ++ 64 ∷ o.pair.1
+
+texts_of : (v : List Package) → map called_text v ≡ map out_text (map outline v)
+unfolding out_text
+texts_of [] = refl
+texts_of (p ∷ v) = ap (λ (l : List (List ℕ)). called_text p ∷ l) (texts_of v)
+
+texts_wanted : (qs : List Found) → map out_text (map wanted qs) ≡ map package_text qs
+unfolding out_text
+texts_wanted [] = refl
+texts_wanted (q ∷ qs) = ap (λ (l : List (List ℕ)). package_text q ∷ l) (texts_wanted qs)
+
+pub in_order : (sorted : List Found) (v : List Package) → map outline v ≡ map wanted sorted → IsSorted (slice_cmp nat_cmp) (map package_text sorted) → IsSorted (slice_cmp nat_cmp) (map called_text v)
+in_order sorted v same h = subst (IsSorted (slice_cmp nat_cmp)) (sym (texts_of v ∙ ap (map out_text) same ∙ texts_wanted sorted)) h
+
+pub have_files : (t : Tree) (v : List Package) → All (HasFiles t) v → HaveFiles t v
+have_files t v h p c = All-contains (HasFiles t) v p h c
+
+pub files_stand : (t : Tree) (v : List Package) → All (HasFiles t) v → FilesStand t v
+files_stand t v h p f c k = (All-contains (HasFiles t) v p h c).stand f k
+
+-- what holds of the packages where they are told
+pub told_of : {V E : Type 0} (items : V → List Package) (res : Result V E) (r : Option Tree) (own : List Pair) (met sorted : List Found) → IsReached r own met → IsPermutation met sorted
+    → IfOk res (λ v. map outline (items v) ≡ map wanted sorted) → IfOk res (λ v. All IsMade (items v)) → IfOk res (λ v. IsOf r own met (items v))
+told_of items (Ok v) r own met sorted reached order same made = record { sorted = sorted; reached = reached; order = order; same = same; made = made }
+told_of items (Err e) r own met sorted reached order same made = tt
+
+pub if_told : {V E : Type 0} (P Q : V → Type 0) (res : Result V E) → ((v : V) → P v → Q v) → IfOk res P → IfOk res Q
+if_told P Q (Ok v) f h = f v h
+if_told P Q (Err e) f h = tt
+
+pub on_told : {V E : Type 0} (P : V → Type 0) (Q : Type 0) (res : Result V E) → ((v : V) → P v → Q) → IfOk res P → OnOk res Q
+on_told P Q (Ok v) f h = f v h
+on_told P Q (Err e) f h = tt

@@ -1,0 +1,70 @@
+-- The packages of an install beside those that a project reaches.
+use Rattle.std.specs.Prelude.{◌≡◌, ◌≢◌, ◌≤◌, ℕ, List, [], ◌∷◌, ◌++◌, length}
+use Rattle.std.specs.List.{Contains}
+use Rattle.pn_text.specs.Path.{Path, path_text}
+use Rattle.pn_fs.specs.Tree.{Tree, IsFile}
+use Rattle.pn_node.specs.Plan.{IsSoundFile}
+use Rattle.pn_manifest.specs.Pairs.{Pair, IsRising}
+use Rattle.pn_registry.specs.Files.{File}
+use Rattle.pn_registry.specs.Places.{package_folder}
+use Rattle.pn_choice.specs.declared.package.Package.{Package as Found}
+use Rattle.pn_layout.specs.declared.packages.Package.{Package}
+use Rattle.pn_layout.specs.Sound.{called, IsSoundPair}
+
+-- a package but for its files
+pub record Outline : Type 0 where
+  pub pair : Pair
+  pub dependencies : List Pair
+  pub folder : Path
+
+abbrev pub outline : Package → Outline
+outline p = record { pair = called p; dependencies = p.dependencies; folder = p.folder }
+
+-- what becomes of a package that is reached: its folder is the registry's
+abbrev pub wanted : Found → Outline
+wanted q = record { pair = (q.id.name, q.id.version); dependencies = q.dependencies; folder = package_folder q.id }
+
+-- `name@version`
+abbrev pub called_text : Package → List ℕ
+called_text p = p.name ++ 64 ∷ p.version
+
+-- The files of a package are exactly those below its folder.
+pub record HasFiles (t : Tree) (p : Package) : Type 0 where
+  pub stand : (f : Path) → Contains p.files.items f → IsFile t (f ++ p.folder)
+  pub all : (f : Path) → IsFile t (f ++ p.folder) → Contains p.files.items f
+
+abbrev pub HaveFiles : Tree → List Package → Type 0
+HaveFiles t packages = (p : Package) → Contains packages p → HasFiles t p
+
+-- Files of a package stand below its folder, none is above another, and each has a path in the registry.
+pub record AreSoundFiles (folder : Path) (files : List Path) : Type 0 where
+  pub each : (f : Path) → Contains files f → IsSoundFile f
+  pub apart : (s f : Path) → Contains files f → Contains files (s ++ f) → s ≡ []
+  pub short : (f : Path) → Contains files f → length (path_text (f ++ folder)) ≤ 4096
+
+-- What a package keeps whatever the others are.
+pub record IsMade (p : Package) : Type 0 where
+  pub pair : IsSoundPair (called p)
+  pub rising : IsRising p.dependencies
+  pub files : AreSoundFiles p.folder p.files.items
+
+abbrev pub path_of : File → Path
+path_of f = f.0
+
+-- below the folder, with a path in the registry
+pub record IsPlaced (folder : Path) (f : Path) : Type 0 where
+  pub below : f ≢ []
+  pub short : length (path_text (f ++ folder)) ≤ 4096
+
+-- These are exactly the files below a folder.
+pub record AreFilesBelow (t : Tree) (folder : Path) (files : List Path) : Type 0 where
+  pub stand : (f : Path) → Contains files f → IsFile t (f ++ folder)
+  pub all : (f : Path) → IsFile t (f ++ folder) → Contains files f
+
+-- The package has the name, version and dependencies of the one that is reached.
+pub record IsBare (q : Found) (p : Package) : Type 0 where
+  pub name : p.name ≡ q.id.name
+  pub version : p.version ≡ q.id.version
+  pub dependencies : p.dependencies ≡ q.dependencies
+  pub pair : IsSoundPair (called p)
+  pub rising : IsRising p.dependencies

@@ -1,0 +1,26 @@
+// Why the packages of an install aren't told.
+use pn_text::{AbsPath, Memory};
+
+/// Why the packages of an install aren't told: the registry's path of a file with a part `node_modules`; a file of so
+/// many bytes, past 268,435,456; the registry's path of a file with so many bytes, past 4,096; more than 4,194,304
+/// entries below a package's folder; a failed call; no memory.
+#[derive(Drop)]
+pub enum CollectFault {
+    Modules(AbsPath),
+    TooLarge(u64),
+    LongPath(u64),
+    Entries,
+    Fault,
+    Memory,
+}
+
+impl From<Memory> for CollectFault {
+    ghost use Rattle.std.specs.Prelude.{◌≡◌};
+    ghost use Rattle.pn_collect.specs.declared.fault.CollectFault.TheVariants.{Memory as no_memory};
+
+    ghost from_gives = { λ _ e. e ≡ no_memory };
+
+    fn from(_: Memory) -> Self {
+        CollectFault::Memory
+    }
+}

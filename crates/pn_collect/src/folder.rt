@@ -1,0 +1,92 @@
+// Where a package stands in the registry.
+ghost use Rattle.std.specs.Prelude.{◌≡◌, ◌≤◌, ◌+◌, ◌++◌, ◌∷◌, [], IfOk, IfErr, IsTrue, length, true};
+ghost use Rattle.pn_text.specs.Path.{path_text, text_below, is_path, is_part};
+ghost use Rattle.pn_text.specs.Name.{is_name, name_path};
+ghost use Rattle.pn_registry.specs.Places.{package_folder};
+ghost use Rattle.pn_choice.specs.Edges.{id_text};
+ghost use Rattle.pn_collect.specs.CollectFaults.{NamesModules};
+
+use crate::fault::CollectFault;
+use pn_manifest::ExactId;
+use pn_text::{AbsPath, Memory, PathFault, RelPath};
+use std::alloc::Global;
+
+/// The path of a package's folder. It isn't too long, since the package's id isn't.
+pub fn package_folder(alloc: Global, id: &ExactId) -> Result<AbsPath, Memory>
+    requires { length (id_text id.now) ≤ 120 }
+    ensures { IfOk result (λ p. p ≡ package_folder id.now) }
+{
+    let _ = id.name().as_str();
+    let name = id.name().as_path(alloc)?;
+    let root = root(alloc)?;
+    let folder = below(alloc, &root, &name)?;
+    child(alloc, &folder, id.version().as_str())
+}
+
+fn root(alloc: Global) -> Result<AbsPath, Memory>
+    ensures { IfOk result (λ p. p ≡ []) }
+{
+    match AbsPath::read(alloc, "/") {
+        Ok(root) => Ok(root),
+        Err(_) => Err(Memory),
+    }
+}
+
+// A path below a folder, short enough for one.
+fn below(alloc: Global, folder: &AbsPath, path: &RelPath) -> Result<AbsPath, Memory>
+    requires { length (path_text (path.now ++ folder.now)) ≤ 4096 }
+    ensures { IfOk result (λ p. p ≡ path.now ++ folder.now) }
+{
+    match folder.join(alloc, path) {
+        Ok(path) => Ok(path),
+        Err(PathFault::Memory) => Err(Memory),
+        Err(_) => unreachable!(),
+    }
+}
+
+// The path of a folder's entry, short enough for one.
+fn child(alloc: Global, folder: &AbsPath, part: &str) -> Result<AbsPath, Memory>
+    requires part { IsTrue (is_part part.now) }
+    requires short { length (path_text (part.now ∷ folder.now)) ≤ 4096 }
+    ensures { IfOk result (λ p. p ≡ part.now ∷ folder.now) }
+{
+    match folder.child(alloc, part) {
+        Ok(path) => Ok(path),
+        Err(PathFault::Memory) => Err(Memory),
+        Err(_) => unreachable!(),
+    }
+}
+
+/// The length in bytes of the path of a file below a folder.
+pub fn joined_length(folder: &AbsPath, path: &RelPath) -> u64
+    ensures { result ≡ length (path_text (path.now ++ folder.now)) }
+{
+    let above = stem_length(folder);
+    let text = path.as_str();
+    above + text.len() as u64 + 1
+}
+
+// The length of what stands before an entry's slash.
+fn stem_length(folder: &AbsPath) -> u64
+    ensures length { result ≡ length (text_below folder.now) }
+    ensures good { IsTrue (is_path folder.now) }
+    ensures short { result ≤ 4096 }
+{
+    let text = folder.as_str();
+    if folder.is_root() {
+        0
+    } else {
+        text.len() as u64
+    }
+}
+
+/// The refusal of a file with a part `node_modules`.
+pub fn modules(alloc: Global, folder: &AbsPath, path: &RelPath) -> CollectFault
+    ensures { NamesModules folder.now path.now result }
+{
+    match folder.join(alloc, path) {
+        Ok(path) => CollectFault::Modules(path),
+        Err(PathFault::Memory) => CollectFault::Memory,
+        Err(_) => CollectFault::LongPath(joined_length(folder, path)),
+    }
+}

@@ -1,0 +1,13 @@
+//! The packages of an install: the packages that a project reaches, in byte order of their ids, each with its folder
+//! in the registry and its files. They keep what the layout of an install asks (`collect`): names and versions are
+//! sound, no two are one, each dependency is among them, and their files stand in the registry.
+#![tactic(auto)]
+
+mod fault;
+mod folder;
+mod package;
+mod packages;
+mod paths;
+
+pub use fault::CollectFault;
+pub use packages::collect;
