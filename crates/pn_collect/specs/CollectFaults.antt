@@ -18,7 +18,8 @@ use Rattle.pn_collect.specs.declared.fault.CollectFault.TheVariants.{Modules, To
 abbrev pub IsLongBelow : Path → Path → ℕ → Type 0
 IsLongBelow folder f n = (n ≡ length (path_text (f ++ folder))) × (4096 < n)
 
--- A file with such a path was listed. No told tree has one.
+-- The count is that of a path below the folder, and the registry isn't told: a told tree has no file with such a path,
+-- and of one that isn't told nothing says which paths it listed.
 pub record HasLongPath (folder : Path) (tree : Option Tree) (n : ℕ) : Type 0 where
   pub path : Path
   pub long : IsLongBelow folder path n
