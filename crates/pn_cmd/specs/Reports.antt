@@ -1,5 +1,11 @@
 -- The report of an install.
-use Rattle.std.specs.Prelude.{ℕ, List, codes}
+use Rattle.std.specs.Prelude.{ℕ, List, ◌++◌, codes, length}
+use Rattle.std.specs.Fmt.{decimal}
+use Rattle.pn_layout.specs.declared.packages.Package.{Package}
 
-abbrev pub report : List ℕ
-report = codes "projects 1\npackages 0\ninstances 0\n"
+-- one project, and so many packages with an instance each
+abbrev pub report_of : ℕ → List ℕ
+report_of n = codes "projects 1\npackages " ++ decimal n ++ codes "\ninstances " ++ decimal n ++ codes "\n"
+
+abbrev pub report : List Package → List ℕ
+report packages = report_of (length packages)

@@ -7,8 +7,11 @@
 mod check;
 mod entry;
 mod faults;
+mod graph;
 mod manifest;
+mod packages;
 mod plan;
+mod ready;
 mod standing;
 mod status;
 #[cfg(test)]

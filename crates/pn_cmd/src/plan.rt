@@ -1,48 +1,51 @@
-// What is written.
-ghost use Rattle.std.specs.Prelude.{◌≡◌, ◌≤◌, ◌∷◌, [], length, OnOk, IfOk, IfErr};
-ghost use Rattle.pn_text.specs.Path.{path_text};
-ghost use Rattle.pn_node.specs.Plan.{marker_name};
-ghost use Rattle.pn_plan.specs.declared.planned.What.TheVariants.{Folder, Bytes};
+// What is written, and what is reported of it.
+ghost use Rattle.std.specs.Prelude.{◌≡◌, ◌∷◌, OnOk, IfOk, IfErr, string_bytes};
+ghost use Rattle.pn_layout.specs.Sound.{AreSound, AreSoundDependencies};
+ghost use Rattle.pn_choice.specs.Edges.{edges_by};
+ghost use Rattle.pn_cmd.specs.Names.{modules_name};
 ghost use Rattle.pn_cmd.specs.Refuses.{Computes};
-ghost use Rattle.pn_cmd.specs.Plans.{TooLongIn, plan_at};
+ghost use Rattle.pn_cmd.specs.Plans.{TooLong, Fits, IsPlan};
+ghost use Rattle.pn_cmd.specs.Reports.{report_of};
 
-use crate::entry::{EntryFault, entry};
 use crate::status::{Status, Which};
-use pn_plan::{Planned, PlannedTree, What};
-use pn_text::{AbsPath, Text};
-use std::alloc::Global;
+use pn_layout::{LayoutFault, Package, layout};
+use pn_manifest::Manifest;
+use pn_plan::PlannedTree;
+use pn_text::AbsPath;
+use std::alloc::{AllocError, Global};
 
-/// The managed folder and its marker.
-pub fn plan(alloc: Global, modules: AbsPath) -> Result<PlannedTree, Status>
-    ensures ok { IfOk result (λ plan. plan ≡ plan_at modules) }
-    ensures fits { OnOk result (length (path_text (marker_name ∷ modules)) ≤ 4096) }
-    ensures refused { IfErr result (Computes (TooLongIn modules)) }
+/// The tree that the packages make in the managed folder of `place`.
+pub fn plan(
+    alloc: Global,
+    place: &AbsPath,
+    modules: &AbsPath,
+    manifest: &Manifest,
+    packages: &[Package],
+) -> Result<PlannedTree, Status>
+    requires modules { modules.now ≡ modules_name ∷ place.now }
+    requires direct { AreSoundDependencies (edges_by manifest.now) }
+    requires sound { AreSound packages.now }
+    ensures plan { IfOk result (IsPlan place.now (edges_by manifest.now) packages.now) }
+    ensures fits { OnOk result (Fits place.now (edges_by manifest.now) packages.now) }
+    ensures refused { IfErr result (Computes (TooLong place.now (edges_by manifest.now) packages.now)) }
 {
-    let marker = match entry(alloc, &modules, ".pnpm-rs") {
-        Ok(path) => path,
-        Err(EntryFault::Long(length)) => return Err(Status::Limit(Which::Path, length)),
-        Err(EntryFault::Memory) => return Err(Status::Memory),
+    let direct = match manifest.edges(alloc) {
+        Ok(direct) => direct,
+        Err(_) => return Err(Status::Memory),
     };
-    match both(alloc, modules, marker) {
+    match layout(alloc, modules, &direct, packages) {
         Ok(plan) => Ok(plan),
-        Err(status) => Err(status),
+        Err(LayoutFault::TooLong(length)) => Err(Status::Limit(Which::Path, length)),
+        Err(LayoutFault::Memory) => Err(Status::Memory),
     }
 }
 
-fn both(alloc: Global, modules: AbsPath, marker: AbsPath) -> Result<PlannedTree, Status>
-    requires { marker ≡ marker_name ∷ modules }
-    ensures ok { IfOk result (λ plan. plan ≡ plan_at modules) }
-    ensures memory { IfErr result (λ e. e ≡ Status.Memory) }
+/// The report of so many packages.
+pub fn report(alloc: Global, count: usize) -> Result<String, AllocError>
+    ensures { IfOk result (λ s. string_bytes s ≡ report_of count) }
 {
-    let text = Text::of(alloc, "pnpm-rs 1\n")?;
-    let mut entries = Vec::new(alloc);
-    entries.push(Planned {
-        path: modules,
-        what: What::Folder,
-    })?;
-    entries.push(Planned {
-        path: marker,
-        what: What::Bytes(text),
-    })?;
-    Ok(PlannedTree::of(entries))
+    let mut text = format!(in alloc; "projects 1\npackages {count}")?;
+    let instances = format!(in alloc; "\ninstances {count}\n")?;
+    text.push_str(instances.as_str())?;
+    Ok(text)
 }

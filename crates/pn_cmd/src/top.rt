@@ -6,6 +6,8 @@ ghost use Rattle.pn_cmd.specs.Causes.{CauseOf, OrderLaw};
 ghost use Rattle.pn_cmd.specs.Texts.{Tells};
 
 use crate::check::check;
+use crate::plan::report;
+use crate::ready::Ready;
 use crate::status::{Status, Which};
 use crate::text::tell;
 use pn_fs::{Fs, ReadFs, Sink};
@@ -43,18 +45,38 @@ fn install<P: Fs, R: ReadFs, O: Sink>(
 ) -> Status
     ensures { Ends (inputs (map string_bytes words.now) place.now) (world (P.seen project.old) (R.seen registry.old) (O.seen out.old)) (world (P.seen project.new) (R.seen registry.new) (O.seen out.new)) result }
 {
-    let plan = match check(alloc, words, place, project) {
-        Ok(plan) => plan,
+    let ready = match check(alloc, words, place, project, registry) {
+        Ok(ready) => ready,
         Err(status) => return status,
     };
-    match write_plan(alloc, project, registry, &plan) {
-        Ok(()) => {}
-        Err(WriteFault::Project) => return Status::ProjectFault,
-        Err(WriteFault::Registry) => return Status::RegistryFault,
-        Err(WriteFault::TooLarge(count)) => return Status::Limit(Which::File, count),
-        Err(WriteFault::Memory) => return Status::Memory,
+    let report = match report(alloc, ready.packages.len()) {
+        Ok(report) => report,
+        Err(_) => return Status::Memory,
+    };
+    write(alloc, &ready, report.as_str(), project, registry, out)
+}
+
+// Writes the tree, and then the report.
+fn write<P: Fs, R: ReadFs, O: Sink>(
+    alloc: Global,
+    ready: &Ready,
+    report: &str,
+    project: &mut P,
+    registry: &mut R,
+    out: &mut O,
+) -> Status
+{
+    match write_plan(alloc, project, registry, &ready.plan) {
+        Ok(()) => tell_report(report, out),
+        Err(WriteFault::Project) => Status::ProjectFault,
+        Err(WriteFault::Registry) => Status::RegistryFault,
+        Err(WriteFault::TooLarge(count)) => Status::Limit(Which::File, count),
+        Err(WriteFault::Memory) => Status::Memory,
     }
-    match out.write(b"projects 1\npackages 0\ninstances 0\n") {
+}
+
+fn tell_report<O: Sink>(report: &str, out: &mut O) -> Status {
+    match out.write(report.as_bytes()) {
         Ok(()) => Status::Done,
         Err(DevFault::Failed) => Status::SinkFault,
         Err(DevFault::Memory) => Status::Memory,
