@@ -4,6 +4,7 @@ pub mod Versions
 pub mod Dirs
 pub mod Ways
 pub mod Plans
+pub mod Findings
 pub mod Builds
 pub mod Slashes
 pub mod Drawings

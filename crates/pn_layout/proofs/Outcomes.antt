@@ -1,10 +1,11 @@
 -- What a finished drawing of the leaves is.
-use Rattle.std.proofs.Common.{◌≡◌, ℕ, List, [], ◌∷◌, ◌++◌, refl, sym, ap, ◌∙◌, subst, true, Some, append_assoc, inl, inr}
+use Rattle.std.proofs.Common.{◌≡◌, ◌≤◌, ℕ, List, [], ◌∷◌, ◌++◌, length, refl, sym, ap, ◌∙◌, subst, true, Some, append_assoc, inl, inr}
 use Rattle.std.specs.Prelude.{◌⊎◌, ◌↔◌, map, Option}
 use Rattle.std.specs.List.{Contains, flat_map}
-use Rattle.pn_text.specs.Path.{Path, same_path}
+use Rattle.pn_text.specs.Path.{Path, same_path, path_text}
 use Rattle.pn_text.proofs.Paths.{same_path-Decides}
-use Rattle.pn_fs.specs.Tree.{Tree}
+use Rattle.pn_fs.specs.Tree.{Entry, Tree}
+use Rattle.pn_node.specs.Plan.{InBuild}
 use Rattle.pn_plan.specs.declared.planned.Planned.{Planned}
 use Rattle.pn_plan.specs.declared.planned.What.{What}
 use Rattle.pn_plan.specs.declared.planned.What.TheVariants.{Folder, Copied}
@@ -109,6 +110,12 @@ too_long at direct packages d n sd sound is h r =
       long = h.long;
       first = λ q e b less. let y = from_build r at direct packages sd sound q e b in h.first q y.0 (drawn_entry at direct packages d sd sound is q y.0 y.1) less;
     }
+
+-- no path of the build is longer than the drawn ones
+pub all_short : (at : Path) (direct : List Pair) (packages : List Package) (d : Drawing) → AreSoundDependencies direct → AreSound packages → drawn d ≡ drawing at (leaves_of at direct packages)
+    → ((q : Path) (w : What) → drawn d q ≡ Some w → length (path_text q) ≤ 4096) → (r : Tree) (q : Path) (e : Entry) → InBuild (plan_of r at direct packages) q e → length (path_text q) ≤ 4096
+all_short at direct packages d sd sound is short r q e b =
+    let y = from_build r at direct packages sd sound q e b in short q y.0 (drawn_entry at direct packages d sd sound is q y.0 y.1)
 
 -- all leaves, drawn in turn from the folder alone
 pub all_drawn : (at : Path) (direct pairs : List Pair) (packages : List Package) (a b c d : Drawing) → a.managed ≡ at → ((q : Path) → drawn a q ≡ bare at q)

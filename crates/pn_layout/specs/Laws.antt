@@ -1,14 +1,18 @@
 -- What is known of the plan of an install.
-use Rattle.std.specs.Prelude.{◌≡◌, List, ◌++◌, Some, None}
+use Rattle.std.specs.Prelude.{◌≡◌, ◌≢◌, ℕ, true, false, List, ◌∷◌, ◌++◌, Some, None}
+use Rattle.std.specs.List.{Contains}
 use Rattle.pn_text.specs.Path.{Path}
-use Rattle.pn_fs.specs.Tree.{Tree}
+use Rattle.pn_text.specs.Name.{is_name, name_path, modules}
+use Rattle.pn_fs.specs.Tree.{folder, Tree, IsTree}
+use Rattle.pn_node.specs.Find.{find}
 use Rattle.pn_node.specs.Plan.{IsBuilt, IsSound}
-use Rattle.pn_node.specs.Finds.{LeadsToFolders}
+use Rattle.pn_node.specs.Finds.{LeadsToFolders, ends_in_modules}
 use Rattle.pn_plan.specs.declared.planned.Planned.{Planned}
 use Rattle.pn_plan.specs.Writes.{IsWritten}
 use Rattle.pn_manifest.specs.Pairs.{Pair}
 use Rattle.pn_layout.specs.declared.packages.Package.{Package}
-use Rattle.pn_layout.specs.Sound.{AreSound, AreSoundDependencies, AreWhole}
+use Rattle.pn_layout.specs.Store.{store_of, home_of}
+use Rattle.pn_layout.specs.Sound.{called, AreSound, AreSoundDependencies, AreWhole}
 use Rattle.pn_layout.specs.Layout.{plan_of, IsLaidOut}
 
 -- The plan of sound packages is sound.
@@ -33,3 +37,24 @@ pub record IsInstalled (r : Tree) (top : Path) (direct : List Pair) (packages : 
 abbrev pub BuiltLaw : Type 0
 BuiltLaw = (r : Tree) (top : Path) (direct : List Pair) (packages : List Package) (planned : List Planned) (t u : Tree) → IsLaidOut r (plan_of r top direct packages) planned
     → IsWritten (Some r) t planned u → IsEmptyAt t top → IsInstalled r top direct packages t u
+
+-- What a folder of an installed package finds, said of the packages themselves.
+pub record FindsOwn (u : Tree) (top : Path) (p : Package) (from : Path) : Type 0 where
+  -- its own name finds its package folder
+  pub own : find u from (name_path p.name) ≡ Some (home_of top (called p))
+  -- a dependency's name finds the package folder of the version that it names
+  pub dependency : (d : Pair) → Contains p.dependencies d → find u from (name_path d.0) ≡ Some (home_of top d)
+  -- any other package name finds what the virtual store's folder finds
+  pub other : (x : List ℕ) → is_name x ≡ true → x ≢ p.name → ((d : Pair) → Contains p.dependencies d → d.0 ≢ x) → find u from (name_path x) ≡ find u (store_of top) (name_path x)
+
+-- What the folders of an install find: each folder at or below a package folder, and the folder that
+-- holds the `node_modules`, other than another `node_modules`, by the project's dependencies.
+pub record FindsAll (u : Tree) (top : Path) (direct : List Pair) (packages : List Package) : Type 0 where
+  pub inside : (p : Package) (inner : Path) → Contains packages p → u (inner ++ home_of top (called p)) ≡ Some folder → FindsOwn u top p (inner ++ home_of top (called p))
+  pub project : (place : Path) (d : Pair) → top ≡ modules ∷ place → ends_in_modules place ≡ false → Contains direct d → find u place (name_path d.0) ≡ Some (home_of top d)
+
+-- In a tree that has the build, each package finds itself and each of its dependencies, and the
+-- project each of its own.
+abbrev pub FindsLaw : Type 0
+FindsLaw = (r : Tree) (top : Path) (direct : List Pair) (packages : List Package) (u : Tree) → IsTree u → AreSoundDependencies direct → AreSound packages → AreWhole direct packages
+    → IsBuilt u (plan_of r top direct packages) → FindsAll u top direct packages

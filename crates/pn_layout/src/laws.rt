@@ -1,5 +1,5 @@
 // What is known of the plan of an install.
-ghost use Rattle.pn_layout.specs.Laws.{SoundLaw, LandsLaw, BuiltLaw};
+ghost use Rattle.pn_layout.specs.Laws.{SoundLaw, LandsLaw, BuiltLaw, FindsLaw};
 
 /// The plan of sound packages is one in which Node finds each dependency.
 pub fn sound_law()
@@ -14,4 +14,11 @@ pub fn lands_law()
 /// What is planned, written to a tree without the managed folder, gives the build and changes nothing else.
 pub fn built_law()
     ensures { BuiltLaw }
+{}
+
+/// In a tree that has the build Node finds, from each folder of a package, the package itself, each
+/// dependency in the version that it names, and any other name as from the virtual store; and from the
+/// project's folder each of its dependencies.
+pub fn finds_law()
+    ensures { FindsLaw }
 {}

@@ -12,6 +12,6 @@ mod plan;
 mod texts;
 
 pub use fault::LayoutFault;
-pub use laws::{built_law, lands_law, sound_law};
+pub use laws::{built_law, finds_law, lands_law, sound_law};
 pub use packages::Package;
 pub use plan::layout;

@@ -1,6 +1,8 @@
 // The planned tree of an install.
-ghost use Rattle.std.specs.Prelude.{◌≡◌, IfOk, IfErr};
-ghost use Rattle.pn_fs.specs.Tree.{Tree};
+ghost use Rattle.std.specs.Prelude.{◌≡◌, ◌≤◌, IfOk, IfErr, OnOk, length};
+ghost use Rattle.pn_text.specs.Path.{Path, path_text};
+ghost use Rattle.pn_fs.specs.Tree.{Entry, Tree};
+ghost use Rattle.pn_node.specs.Plan.{InBuild};
 ghost use Rattle.pn_plan.specs.Drawing.{drawn};
 ghost use Rattle.pn_plan.specs.Entries.{drawing};
 ghost use Rattle.pn_layout.specs.Sound.{AreSound, AreSoundDependencies, FilesStand};
@@ -29,6 +31,7 @@ pub fn layout(
     requires packages { AreSound packages.now }
     ensures build { IfOk result (λ planned. (r : Tree) → FilesStand r packages.now → IsLaidOut r (plan_of r modules.now direct.now packages.now) planned) }
     ensures closed { IfOk result (IsClosed modules.now packages.now) }
+    ensures short { OnOk result ((r : Tree) (q : Path) (e : Entry) → InBuild (plan_of r modules.now direct.now packages.now) q e → length (path_text q) ≤ 4096) }
     ensures refused { IfErr result (LayoutRefused modules.now direct.now packages.now) }
 {
     let draft = draft_of(alloc, modules, direct, packages)?;

@@ -1,0 +1,5 @@
+use Rattle.pn_layout.proofs.Findings.{finds}
+use Rattle.pn_layout.proofs.laws.finds_law.Goals as goal
+
+pub returns : goal.returns
+returns c = finds
