@@ -20,7 +20,7 @@ passes r now q p same is made h = if_all (λ t. HasFiles t p) (λ t. (p : Packag
 -- the package at a place of the list is refused, and those before it are not
 pub first_at : (r : Option Tree) (found : List Found) (k : ℕ) (q : Found) (fault : CollectFault) → k < length found → q ≡ get_or found k q → IsSorted (slice_cmp nat_cmp) (map package_text found)
     → All (HasPassed r) (take k found) → NoFiles r q.id fault → IsFirstRefused found r fault
-first_at r found k q fault within is sorted passed no =
+first_at r found k q fault within is sorted passed cause =
     let split = split_at found k q within is in
     record {
       before = take k found;
@@ -29,7 +29,7 @@ first_at r found k q fault within is sorted passed no =
       all = subst (IsPermutation found) split (IsPermutation-refl found);
       sorted = subst (λ (l : List Found). IsSorted (slice_cmp nat_cmp) (map package_text l)) split sorted;
       passed = passed;
-      refused = no;
+      refused = cause;
     }
 
 pub first_of : (r : Option Tree) (met found : List Found) (fault : CollectFault) → IsPermutation met found → IsFirstRefused found r fault → IsFirstRefused met r fault

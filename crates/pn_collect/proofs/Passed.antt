@@ -35,16 +35,16 @@ not_many t folder files h many =
 
 -- the files that are told show no cause
 has_files : (t : Tree) (id : Id) (files : List Path) (fault : CollectFault) → ((f : Path) → Contains files f → IsSoundFile f) → AreFilesBelow t (package_folder id) files → NoFiles (Some t) id fault → ⊥
-has_files t id files (Modules path) sound h no =
-    let s = no.3.first.stands in
-    true_false (sym no.2 ∙ (sound no.0 (h.all no.0 (s.0, s.1))).clean)
-has_files t id files (TooLarge n) sound h no =
-    let s = no.2.first.stands in
-    omega (arith, h.short no.0 s.0 s.1, s.2, no.1)
-has_files t id files (LongPath n) sound h no = cc no.untold
-has_files t id files Entries sound h no = not_many t (package_folder id) files h no
-has_files t id files Fault sound h no = no
-has_files t id files Memory sound h no = no
+has_files t id files (Modules path) sound h cause =
+    let s = cause.3.first.stands in
+    true_false (sym cause.2 ∙ (sound cause.0 (h.all cause.0 (s.0, s.1))).clean)
+has_files t id files (TooLarge n) sound h cause =
+    let s = cause.2.first.stands in
+    omega (arith, h.short cause.0 s.0 s.1, s.2, cause.1)
+has_files t id files (LongPath n) sound h cause = cc cause.untold
+has_files t id files Entries sound h cause = not_many t (package_folder id) files h cause
+has_files t id files Fault sound h cause = cause
+has_files t id files Memory sound h cause = cause
 
 pub passed : PassedLaw
 passed t own met packages fault all first =
