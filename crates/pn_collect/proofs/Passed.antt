@@ -25,12 +25,12 @@ use Rattle.pn_collect.proofs.Lists.{from_image, in_image, true_false}
 not_many : (t : Tree) (folder : Path) (files : List Path) → AreFilesBelow t folder files → HasMany t folder entry_limit → ⊥
 not_many t folder files h many =
     let among : (p : Path) → Contains many.paths p → Contains h.few.paths p = λ p c.
-        let s = many.stand p c in
-        let stands : t ((s.part ∷ s.tail) ++ folder) ≡ Some s.entry = subst (λ (q : Path). t q ≡ Some s.entry) s.is s.stands in
-        elim (h.few.all (s.part ∷ s.tail) s.entry stands) [
-          | inl e ↦ absurd (cc e)
-          | inr i ↦ subst (Contains h.few.paths) (sym s.is) i
-        ] in
+    let s = many.stand p c in
+    let stands : t ((s.part ∷ s.tail) ++ folder) ≡ Some s.entry = subst (λ (q : Path). t q ≡ Some s.entry) s.is s.stands in
+    elim (h.few.all (s.part ∷ s.tail) s.entry stands) [
+      | inl e ↦ absurd (cc e)
+      | inr i ↦ subst (Contains h.few.paths) (sym s.is) i
+    ] in
     omega (arith, no_longer many.paths h.few.paths many.distinct among, many.many, h.few.few)
 
 -- the files that are told show no cause

@@ -76,10 +76,7 @@ fn lines(alloc: Global, packages: &[Package]) -> Result<String, Fail> {
     Ok(all)
 }
 
-fn told(
-    alloc: Global,
-    found: Option<Result<Vec<Package>, CollectFault>>,
-) -> Result<String, Fail> {
+fn told(alloc: Global, found: Option<Result<Vec<Package>, CollectFault>>) -> Result<String, Fail> {
     match found {
         Some(Ok(packages)) => lines(alloc, packages.as_slice()),
         Some(Err(CollectFault::Modules(path))) => Ok(String::from_str(alloc, path.as_str())?),
@@ -121,7 +118,10 @@ fn a_failed_call_is_told(rt: HostRuntime) -> Result<(), Fail> {
     let alloc = rt.alloc();
     let project = r#"{"dependencies":{"a":"1.0.0"}}"#;
     let mut whole = MemFs::new(alloc, Vec::new(alloc));
-    assert_eq!(rt; answer(alloc, &mut whole, project)?.as_str(), "/a/1.0.0 lib-x.js lib/x.js package.json;");
+    assert_eq!(rt;
+        answer(alloc, &mut whole, project)?.as_str(),
+        "/a/1.0.0 lib-x.js lib/x.js package.json;"
+    );
     let last = whole.calls().saturating_sub(1);
     let mut failing = MemFs::new(alloc, vec![in alloc; last]?);
     assert_eq!(rt; answer(alloc, &mut failing, project)?.as_str(), "fault");
