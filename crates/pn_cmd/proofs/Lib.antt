@@ -1,8 +1,9 @@
 pub mod Steps
 mod FoundManifests
-mod Rising
+mod Texts
+mod Faults
 mod Stages
-mod Endings
 mod Written
-mod Writing
+mod Endings
 mod Tables
+mod Lookups

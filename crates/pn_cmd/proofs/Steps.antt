@@ -1,9 +1,10 @@
 -- Lemmas on the points of a run.
-use Rattle.std.proofs.Common.{◌≡◌, ◌≤◌, ℕ, sym, ◌∙◌, subst, arith, inl, inr, ◌⊎◌}
+use Rattle.std.proofs.Common.{◌≡◌, ◌≤◌, ℕ, refl, sym, ◌∙◌, subst, arith, inl, inr, ◌⊎◌}
 use Rattle.pn_text.specs.Causes.{Rose}
 use Rattle.pn_fs.specs.Seen.{Seen, Keeps}
 use Rattle.pn_cmd.specs.declared.status.Status.{Status}
 use Rattle.pn_cmd.specs.declared.status.Status.TheVariants.{Memory, ProjectFault, RegistryFault}
+use Rattle.pn_cmd.specs.World.{Sources, sources, AreKept}
 use Rattle.pn_cmd.specs.Refuses.{Computes, ReadsProject, ReadsRegistry}
 
 -- a count that rose behind a place rose from before it
@@ -12,6 +13,16 @@ rose_from a b c l h = omega (arith, l, h)
 
 pub kept_twice : (a b c : Seen) → Keeps a b → Keeps b c → Keeps a c
 kept_twice a b c h k = record { tree = k.tree ∙ h.tree; touched = k.touched ∙ h.touched; later = omega (arith, h.later, k.later) }
+
+pub unchanged : (a : Seen) → Keeps a a
+unchanged a = record { tree = refl; touched = refl; later = omega arith }
+
+pub kept_both : (a b c : Sources) → AreKept a b → AreKept b c → AreKept a c
+kept_both a b c h k = record { project = kept_twice a.project b.project c.project h.project k.project; registry = kept_twice a.registry b.registry c.registry h.registry k.registry }
+
+-- calls of the project alone
+pub project_kept : (a b registry : Seen) → Keeps a b → AreKept (sources a registry) (sources b registry)
+project_kept a b registry h = record { project = h; registry = unchanged registry }
 
 -- a refusal behind calls that only read is one from before them
 pub project_from : (C D : Status → Type 0) (old mid new : Seen) (s : Status) → old.faults ≤ mid.faults → (C s → D s) → ReadsProject C mid new s → ReadsProject D old new s

@@ -1,91 +1,74 @@
 -- What is planned can be written, and what it makes of the project's tree.
-use Rattle.std.proofs.Common.{◌≡◌, ◌≢◌, ℕ, zero, suc, ◌<◌, List, [], ◌∷◌, ◌++◌, length, get_or, lit<, length-append, refl, sym, ap, ◌∙◌, subst, Option, Some, None, inl, inr, ◌⊎◌, Bool, true, false, arith}
-use Rattle.std.specs.Prelude.{MatchOption, ◌||◌}
+use Rattle.std.proofs.Common.{◌≡◌, ℕ, List, [], ◌∷◌, ◌++◌, refl, sym, ap, ◌∙◌, subst, Option, Some, None, inl, inr, ◌⊎◌, Bool, true, false}
+use Rattle.std.specs.Prelude.{IfSome}
 use Rattle.std.specs.Option.{ForSome}
 use Rattle.std.specs.List.{Contains}
-use Rattle.pn_text.specs.Path.{Path, same_path}
-use Rattle.pn_text.proofs.Paths.{same_path-Decides}
-use Rattle.pn_fs.specs.Tree.{Entry, folder, file, Tree, IsTree}
+use Rattle.pn_text.specs.Path.{Path}
+use Rattle.pn_fs.specs.Tree.{Entry, folder, Tree, IsTree, IsFree}
 use Rattle.pn_fs.proofs.Kept.{none_below}
-use Rattle.pn_fs.proofs.Puts.{same_path_refl, deeper}
-use Rattle.pn_node.specs.Plan.{marker_name}
+use Rattle.pn_manifest.specs.Pairs.{Pair}
 use Rattle.pn_plan.specs.declared.planned.Planned.{Planned}
-use Rattle.pn_plan.specs.declared.planned.What.TheVariants.{Folder, Bytes}
-use Rattle.pn_plan.specs.Drawing.{is_within, is_below}
-use Rattle.pn_plan.specs.Plan.{is_planned, IsWritable, IsNext, IsCopyable, CanCopy}
-use Rattle.pn_plan.specs.Writes.{Writes, IsWritten, StandsAs, DiffersOnly}
-use Rattle.pn_cmd.specs.Names.{modules_name}
-use Rattle.pn_cmd.specs.Plans.{modules_path, marker_path, marker_text, plan_at, Installs, IsInstalled}
+use Rattle.pn_plan.specs.declared.planned.What.{What}
+use Rattle.pn_plan.specs.declared.planned.What.TheVariants.{Folder, Bytes, Copied, Link}
+use Rattle.pn_plan.specs.Drawing.{is_within}
+use Rattle.pn_plan.specs.Plan.{is_planned, Plans, IsRising, IsWritable, IsCopyable, CanCopy}
+use Rattle.pn_plan.specs.Writes.{Writes, DiffersOnly}
+use Rattle.pn_plan.proofs.Writable.{writable, none_within, planned_entry}
+use Rattle.pn_layout.specs.declared.packages.Package.{Package}
+use Rattle.pn_layout.specs.Sound.{FilesStand}
+use Rattle.pn_layout.specs.Layout.{plan_of}
+use Rattle.pn_layout.proofs.Builds.{built}
+use Rattle.pn_layout.proofs.Within.{within_from, is_within_at}
+use Rattle.pn_collect.specs.Outline.{HaveFiles}
+use Rattle.pn_cmd.specs.Plans.{modules_path, IsPlan, Installs, IsInstalled}
 
--- the two entries
-abbrev folder_of : Path → Planned
-folder_of m = record { path = m; what = Folder }
+-- the managed folder's place is free
+pub can_write : (t : Tree) (place : Path) (own : List Pair) (packages : List Package) (plan : List Planned) → IsTree t → t (modules_path place) ≡ None → t place ≡ Some folder → IsRising plan → IsPlan place own packages plan → IsWritable t plan
+can_write t place own packages plan tree absent parent rising is =
+    writable t (modules_path place) plan tree rising (record {
+      free = record { absent = absent; parent = parent };
+      within = λ p w h. let at = is.closed.within p w h in subst (λ q. is_within (modules_path place) q ≡ true) (sym at.1) (is_within_at at.0 (modules_path place));
+      parents = is.closed.parents;
+    })
 
-abbrev marker_of : Path → Planned
-marker_of m = record { path = marker_name ∷ m; what = Bytes marker_text }
+copied_is : (w : What) (r : Tree) (place : Path) (own : List Pair) (packages : List Package) (plan : List Planned) (q : Path) → IsPlan place own packages plan → HaveFiles r packages → Plans plan q w → CanCopy r w
+copied_is Folder r place own packages plan q is files h = tt
+copied_is (Bytes text) r place own packages plan q is files h = tt
+copied_is (Link text) r place own packages plan q is files h = tt
+copied_is (Copied c) r place own packages plan q is files h =
+    let from = is.closed.copied q c h in
+    let its = files from.0 from.2 in
+    let stands = its.stand from.1 from.3 in
+    subst (λ p. CanCopy r (Copied p)) (sym from.4) (record { bytes = stands.0; stands = stands.1; short = its.short from.1 stands.0 stands.1 })
 
-apart : (m q : Path) → m ≢ q → same_path m q ≡ false
-apart m q ne = elim (same_path m q) as (λ b. (b ≡ true → m ≡ q) → b ≡ false) [ true ↦ λ f. absurd (ne (f refl)) | false ↦ λ f. refl ] (λ e. (same_path-Decides m q).0 e)
-
--- the managed folder's place is free, and then the marker's
-pub next_of : (t : Tree) (place : Path) → IsTree t → t (modules_path place) ≡ None → t place ≡ Some folder → (before : List Planned) (e : Planned) (after : List Planned) → plan_at (modules_path place) ≡ before ++ e ∷ after → IsNext t before e.path
-next_of t place tree absent parent [] e after is =
-    let at : modules_path place ≡ e.path = ap (λ (es : List Planned). (get_or es 0 e).path) is in
-    subst (λ p. IsNext t [] p) at (record { absent = absent; parent = inl parent; once = refl })
-next_of t place tree absent parent (f ∷ []) e after is =
-    let m = modules_path place in
-    let first : folder_of m ≡ f = ap (λ (es : List Planned). get_or es 0 e) is in
-    let at : marker_name ∷ m ≡ e.path = ap (λ (es : List Planned). (get_or es 1 e).path) is in
-    subst (λ (g : Planned). IsNext t (g ∷ []) e.path) first (subst (λ p. IsNext t (folder_of m ∷ []) p) at (record {
-      absent = none_below t tree m (λ h. cc (h, absent)) marker_name;
-      parent = inr (0, lit< tt, refl);
-      once = ap (λ b. b || false) (apart m (marker_name ∷ m) (λ h. deeper marker_name m (sym h)));
-    }))
-next_of t place tree absent parent (f ∷ g ∷ before) e after is = absurd (let l = ap (λ (es : List Planned). length es) is in omega (arith, l, length-append before (e ∷ after)))
-
--- nothing of the plan is copied
-one_of : (a b e : Planned) → Contains (a ∷ b ∷ []) e → (e ≡ a) ⊎ (e ≡ b)
-one_of a b e (zero, l, is) = inl (sym is)
-one_of a b e (suc zero, l, is) = inr (sym is)
-one_of a b e (suc (suc k), l, is) = absurd (omega (arith, l))
-
-pub can_copy : (r : Option Tree) (m : Path) → ForSome r (λ t. IsCopyable t (plan_at m))
-can_copy r m t told e has = elim (one_of (folder_of m) (marker_of m) e has) [
-  | inl h ↦ subst (λ (f : Planned). CanCopy t f.what) (sym h) tt
-  | inr h ↦ subst (λ (f : Planned). CanCopy t f.what) (sym h) tt
-]
-
-written_at : (place : Path) (r : Option Tree) (t u : Tree) → IsWritten r t (plan_at (modules_path place)) u → IsInstalled place t u
-written_at place r t u h =
-    let m = modules_path place in
-    record {
-      modules = h.planned (folder_of m) (0, lit< tt, refl);
-      marker = h.planned (marker_of m) (1, lit< tt, refl);
-      others = λ q a b. h.others q (ap (λ c. c || (same_path (marker_name ∷ m) q || false)) (apart m q (λ e. a (sym e))) ∙ ap (λ c. c || false) (apart (marker_name ∷ m) q (λ e. b (sym e))));
-    }
-
-pub installs : (place : Path) (r old new : Option Tree) → Writes r (plan_at (modules_path place)) old new → Installs place old new
-installs place r None new h = h
-installs place r (Some t) new h = (h.0, h.1, written_at place r t h.0 h.2)
-
-or_true : (a : Bool) {b : Bool} → b ≡ true → (a || b) ≡ true
-or_true true h = refl
-or_true false h = h
+-- what is copied stands in the registry
+pub can_copy : (r : Tree) (place : Path) (own : List Pair) (packages : List Package) (plan : List Planned) → IsPlan place own packages plan → HaveFiles r packages → IsCopyable r plan
+can_copy r place own packages plan is files e has = copied_is e.what r place own packages plan e.path is files has
 
 -- what is planned lies at or below the managed folder
-outside : (m q : Path) → is_within m q ≡ false → is_planned (plan_at m) q ≡ false
-outside m q out =
-    ap (λ c. c || (same_path (marker_name ∷ m) q || false)) (apart m q (λ e. within_same e))
-    ∙ ap (λ c. c || false) (apart (marker_name ∷ m) q (λ e. within_marker e))
-  where
-    contra : is_within m q ≡ true → ⊥
-    contra inside = cc (inside, out)
+outside : (place : Path) (own : List Pair) (packages : List Package) (plan : List Planned) (q : Path) → IsPlan place own packages plan → is_within (modules_path place) q ≡ false → is_planned plan q ≡ false
+outside place own packages plan q is out = elim (is_planned plan q) as (λ b. is_planned plan q ≡ b → b ≡ false) [
+  | false ↦ λ e. refl
+  | true ↦ λ e.
+      let p = planned_entry plan q e in
+      let at = is.closed.within p.0.path p.0.what p.1 in
+      let inside : is_within (modules_path place) q ≡ true = subst (λ x. is_within (modules_path place) x ≡ true) (sym at.1 ∙ p.2) (is_within_at at.0 (modules_path place)) in
+      cc (inside, out)
+] refl
 
-    within_same : m ≡ q → ⊥
-    within_same e = contra (ap (λ b. b || is_below m q) (subst (λ p. same_path p m ≡ true) e (same_path_refl m)))
+pub only_below : (place : Path) (own : List Pair) (packages : List Package) (plan : List Planned) (old new : Option Tree) → IsPlan place own packages plan → DiffersOnly (is_planned plan) old new
+    → DiffersOnly (is_within (modules_path place)) old new
+only_below place own packages plan old new is h t told = let u = h t told in (u.0, u.1, λ q out. u.2 q (outside place own packages plan q is out))
 
-    within_marker : marker_name ∷ m ≡ q → ⊥
-    within_marker e = contra (subst (λ p. is_within m p ≡ true) e (or_true (same_path (marker_name ∷ m) m) (ap (λ b. b || is_below m m) (same_path_refl m))))
-
-pub only_below : (place : Path) (old new : Option Tree) → DiffersOnly (is_planned (plan_at (modules_path place))) old new → DiffersOnly (is_within (modules_path place)) old new
-only_below place old new h t told = let u = h t told in (u.0, u.1, λ q out. u.2 q (outside (modules_path place) q out))
+pub installs : (registry : Option Tree) (place : Path) (own : List Pair) (packages : List Package) (plan : List Planned) (old new : Option Tree) → IsPlan place own packages plan → IfSome registry (λ r. FilesStand r packages)
+    → ((t : Tree) → old ≡ Some t → IsTree t) → IfSome old (λ t. t (modules_path place) ≡ None) → Writes registry plan old new → Installs registry place own packages old new
+installs registry place own packages plan None new is stand tree absent h = h
+installs None place own packages plan (Some t) new is stand tree absent h =
+    (h.0, h.1, record { built = tt; others = λ q out. h.2.others q (outside place own packages plan q is out) })
+installs (Some r) place own packages plan (Some t) new is stand tree absent h =
+    let top = modules_path place in
+    let none = λ (q : Path). none_within t (tree t refl) top (q ++ top) absent (is_within_at q top) in
+    (h.0, h.1, record {
+      built = (built r top own packages plan t h.0 (is.build r stand) h.2 none).built;
+      others = λ q out. h.2.others q (outside place own packages plan q is out);
+    })

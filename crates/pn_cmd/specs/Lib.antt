@@ -8,6 +8,7 @@ pub mod Graph
 pub mod Packages
 pub mod Plans
 pub mod Reports
+pub mod Writing
 pub mod Order
 pub mod Readies
 pub mod Causes

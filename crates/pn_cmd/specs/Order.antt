@@ -1,9 +1,8 @@
 -- The order of a run, and how it ends.
-use Rattle.std.specs.Prelude.{◌≡◌, ◌⊎◌, ◌∷◌, ◌≤◌, ℕ, List, length, take, true, false, Option, IfSome}
+use Rattle.std.specs.Prelude.{◌≡◌, ◌⊎◌, ◌∷◌, ℕ, List, true, false}
 use Rattle.serde_json.specs.Data.{Data}
 use Rattle.pn_text.specs.Path.{Path}
 use Rattle.pn_text.specs.Causes.{Rose}
-use Rattle.pn_fs.specs.Tree.{Tree}
 use Rattle.pn_fs.specs.Takes.{told_more}
 use Rattle.pn_manifest.specs.Pairs.{Pair}
 use Rattle.pn_manifest.specs.Fields.{edges_of}
@@ -14,8 +13,7 @@ use Rattle.pn_choice.specs.Walked.{IsReached}
 use Rattle.pn_layout.specs.declared.packages.Package.{Package}
 use Rattle.pn_collect.specs.Packages.{ArePackages}
 use Rattle.pn_cmd.specs.declared.status.Status.{Status}
-use Rattle.pn_cmd.specs.declared.status.Which.TheVariants.{File}
-use Rattle.pn_cmd.specs.declared.status.Status.TheVariants.{Done, Memory, Usage, Limit, ProjectFault, RegistryFault, SinkFault}
+use Rattle.pn_cmd.specs.declared.status.Status.TheVariants.{Done, Memory, Usage, SinkFault}
 use Rattle.pn_cmd.specs.World.{Sources, World, Inputs, sources_of}
 use Rattle.pn_cmd.specs.Names.{workspace_name, package_name, lock_name, is_install}
 use Rattle.pn_cmd.specs.Refuses.{Then, Computes, ReadsProject, ReadsRegistry}
@@ -25,6 +23,7 @@ use Rattle.pn_cmd.specs.Graph.{Unreached}
 use Rattle.pn_cmd.specs.Packages.{Unlisted}
 use Rattle.pn_cmd.specs.Plans.{modules_path, TooLong, Fits, Installs}
 use Rattle.pn_cmd.specs.Reports.{report}
+use Rattle.pn_cmd.specs.Writing.{Stops, TookSome}
 
 abbrev pub WordsRefused : List (List ℕ) → Status → Type 0
 WordsRefused words Usage = is_install words ≡ false
@@ -88,15 +87,6 @@ pub record Passed (i : Inputs) (packages : List Package) (old : Sources) : Type 
   pub manifest : IsProjectManifest old.project.tree (package_name ∷ i.place) value
   pub behind : PassedBehind i.place value packages old
 
--- The writing stops for want of memory, for a fault of the project or of the registry, or where a
--- file of a registry that tells nothing went on past the limit.
-abbrev pub Stops : World → World → Status → Type 0
-Stops old new Memory = Unit {0}
-Stops old new ProjectFault = Rose old.project.faults new.project.faults
-Stops old new RegistryFault = Rose old.registry.faults new.registry.faults
-Stops old new (Limit File n) = (n ≡ 268435457) × IfSome old.registry.tree (λ r. ⊥)
-Stops old new s = ⊥
-
 -- The report is refused for want of memory, or for a fault of the output.
 abbrev pub Unreported : World → World → Status → Type 0
 Unreported old new Memory = Unit {0}
@@ -120,10 +110,6 @@ pub record Written (i : Inputs) (own : List Pair) (packages : List Package) (old
   pub project : Installs old.registry.tree i.place own packages old.project.tree new.project.tree
   pub registry : new.registry.tree ≡ old.registry.tree
 
--- the output took a prefix of the report
-abbrev pub TookSome : List Package → World → World → Type 0
-TookSome packages old new = (new.out.bytes ≡ old.out.bytes) ⊎ ((k : ℕ) × (k ≤ length (report packages)) × (new.out.bytes ≡ told_more old.out.bytes (take k (report packages))))
-
 -- What is there when a run is done: the points are passed, the project is installed, and the output took the report.
 pub record IsDone (i : Inputs) (packages : List Package) (old new : World) : Type 0 where
   pub passed : Passed i packages (sources_of old)
@@ -135,6 +121,6 @@ pub record IsDone (i : Inputs) (packages : List Package) (old new : World) : Typ
 pub data Ends (i : Inputs) (old new : World) : Status → Type 0 where
   refused : (s : Status) → Refused i (sources_of old) (sources_of new) s → Untouched old new → Ends i old new s
   no_memory : Untouched old new → Ends i old new Memory
-  stopped : (s : Status) (packages : List Package) → Passed i packages (sources_of old) → Stops old new s → HalfWritten i old new → Ends i old new s
-  unreported : (s : Status) (packages : List Package) (passed : Passed i packages (sources_of old)) → Unreported old new s → Written i (edges_of passed.value) packages old new → TookSome packages old new → Ends i old new s
+  stopped : (s : Status) (packages : List Package) → Passed i packages (sources_of old) → Stops (sources_of old) (sources_of new) s → HalfWritten i old new → Ends i old new s
+  unreported : (s : Status) (packages : List Package) (passed : Passed i packages (sources_of old)) → Unreported old new s → Written i (edges_of passed.value) packages old new → TookSome (report packages) old.out new.out → Ends i old new s
   done : (packages : List Package) → IsDone i packages old new → Ends i old new Done

@@ -19,6 +19,7 @@ mod tests;
 mod text;
 mod top;
 mod words;
+mod write;
 
 pub use status::{ManifestWhy, Status, Which};
 pub use text::tell;

@@ -1,0 +1,113 @@
+-- What the folders of an installed project find.
+use Rattle.std.proofs.Common.{◌≡◌, ◌≢◌, ℕ, List, ◌∷◌, ◌++◌, refl, sym, ap, ◌∙◌, subst, Option, Some, None, true, false, map, IsPermutation}
+use Rattle.std.specs.Prelude.{IfSome}
+use Rattle.std.specs.List.{Contains}
+use Rattle.std.proofs.lemmas.List.Elements.{All-contains}
+use Rattle.std.proofs.lemmas.List.Sorted.{Contains-permutation}
+use Rattle.serde_json.specs.Data.{Data}
+use Rattle.pn_text.specs.Path.{Path}
+use Rattle.pn_text.specs.Name.{is_name, name_path}
+use Rattle.pn_fs.specs.Tree.{folder, file, Entry, Tree, IsTree}
+use Rattle.pn_node.specs.Find.{find}
+use Rattle.pn_node.specs.Plan.{IsBuilt}
+use Rattle.pn_manifest.specs.Exact.{Id}
+use Rattle.pn_manifest.specs.Pairs.{Pair}
+use Rattle.pn_manifest.specs.Text.{IsObjectText}
+use Rattle.pn_manifest.specs.Fields.{edges_of}
+use Rattle.pn_registry.specs.Places.{manifest_path}
+use Rattle.pn_registry.specs.Package.{IsText}
+use Rattle.pn_choice.specs.Edges.{id_of}
+use Rattle.pn_choice.specs.Found.{IsPackage}
+use Rattle.pn_choice.specs.Reaches.{Reaches}
+use Rattle.pn_choice.specs.Walked.{IsReached}
+use Rattle.pn_choice.specs.declared.package.Package.{Package as Found}
+use Rattle.pn_choice.proofs.Least.{least, text_once}
+use Rattle.pn_layout.specs.declared.packages.Package.{Package}
+use Rattle.pn_layout.specs.Laws.{FindsAll, FindsOwn}
+use Rattle.pn_layout.specs.Layout.{plan_of}
+use Rattle.pn_layout.specs.Store.{home_of, store_of}
+use Rattle.pn_layout.specs.Sound.{called}
+use Rattle.pn_layout.proofs.Findings.{finds}
+use Rattle.pn_layout.proofs.Contents.{in_map, from_map}
+use Rattle.pn_collect.specs.Outline.{Outline, outline, wanted}
+use Rattle.pn_collect.specs.Packages.{ArePackages}
+use Rattle.pn_cmd.specs.declared.status.Status.{Status}
+use Rattle.pn_cmd.specs.declared.status.Status.TheVariants.{Done}
+use Rattle.pn_cmd.specs.World.{World, Inputs, sources_of}
+use Rattle.pn_cmd.specs.Names.{package_name}
+use Rattle.pn_cmd.specs.Manifests.{IsManifest, IsProjectManifest}
+use Rattle.pn_cmd.specs.Plans.{modules_path, Installs, IsInstalled}
+use Rattle.pn_cmd.specs.Order.{IsDone}
+use Rattle.pn_cmd.specs.Causes.{CauseOf}
+use Rattle.pn_cmd.specs.Lookup.{LookupOf, Finds, FindsFrom, package_home}
+use Rattle.pn_cmd.proofs.Tables.{same_bytes, same_data}
+
+-- a package that is reached, as it is installed
+record IsOne (id : Id) (value : Data) (packages : List Package) : Type 0 where
+  pub package : Package
+  pub here : Contains packages package
+  pub same : called package ≡ (id.name, id.version)
+  pub edges : package.dependencies ≡ edges_of value
+
+one_of : (r : Tree) (own : List Pair) (met : List Found) (packages : List Package) (id : Id) (value : Data) → IsReached (Some r) own met → ArePackages (Some r) own met packages → Reaches r own id → IsText (r (manifest_path id)) value → IsOne id value packages
+one_of r own met packages id value reached are reaches text =
+    let q = from_map id_of met id ((least r own met reached).complete id reaches) in
+    let found = All-contains (IsPackage (Some r)) met q.0 reached.walked.found q.1 in
+    let p = from_map outline packages (wanted q.0) (Contains-permutation (map wanted met) (map outline packages) (wanted q.0) are.exact (in_map wanted met q.0 q.1)) in
+    let value_is : found.value ≡ value = text_once (r (manifest_path id)) found.value value (subst (λ (i : Id). IsText (r (manifest_path i)) found.value) q.2 found.manifest.text) text in
+    record {
+      package = p.0;
+      here = p.1;
+      same = ap (λ (o : Outline). o.pair) p.2 ∙ ap (λ (i : Id). (i.name, i.version)) q.2;
+      edges = ap (λ (o : Outline). o.dependencies) p.2 ∙ found.edges ∙ ap edges_of value_is;
+    }
+
+-- what a package finds, said of its id and its manifest
+own_is : (u : Tree) (place : Path) (id : Id) (value : Data) (p : Package) (from : Path) → called p ≡ (id.name, id.version) → p.dependencies ≡ edges_of value → FindsOwn u (modules_path place) p from → FindsFrom u place id (edges_of value) from
+own_is u place id value p from same edges h =
+    let name : p.name ≡ id.name = ap (λ (c : Pair). c.0) same in
+    record {
+      own = subst (λ (n : List ℕ). find u from (name_path n) ≡ Some (package_home place id)) name (h.own ∙ ap (λ (c : Pair). Some (home_of (modules_path place) c)) same);
+      dependency = λ e c. h.dependency e (subst (λ (l : List Pair). Contains l e) (sym edges) c);
+      other = λ x named apart none. h.other x named (λ e. apart (e ∙ name)) (λ d c. none d (subst (λ (l : List Pair). Contains l d) edges c));
+    }
+
+inside_is : (r u : Tree) (place : Path) (own : List Pair) (met : List Found) (packages : List Package) → IsReached (Some r) own met → ArePackages (Some r) own met packages → FindsAll u (modules_path place) own packages
+    → (id : Id) (value : Data) (inner : Path) → Reaches r own id → IsText (r (manifest_path id)) value → u (inner ++ package_home place id) ≡ Some folder → FindsFrom u place id (edges_of value) (inner ++ package_home place id)
+inside_is r u place own met packages reached are all id value inner reaches text stands =
+    let one = one_of r own met packages id value reached are reaches text in
+    let home : home_of (modules_path place) (called one.package) ≡ package_home place id = ap (home_of (modules_path place)) one.same in
+    subst (λ (h : Path). FindsFrom u place id (edges_of value) (inner ++ h)) home
+    (own_is u place id value one.package (inner ++ home_of (modules_path place) (called one.package)) one.same one.edges
+    (all.inside one.package inner one.here (subst (λ (h : Path). u (inner ++ h) ≡ Some folder) (sym home) stands)))
+
+all_found : (r u : Tree) (place : Path) (own : List Pair) (met : List Found) (packages : List Package) → IsTree u → IsReached (Some r) own met → ArePackages (Some r) own met packages → IsBuilt u (plan_of r (modules_path place) own packages) → Finds r u place own
+all_found r u place own met packages tree reached are is_built =
+    let all = finds r (modules_path place) own packages u tree are.direct are.sound are.whole is_built in
+    record { inside = inside_is r u place own met packages reached are all; project = λ named e c. all.project place e refl named c }
+
+-- the two manifests that stand at one path are one
+same_manifest : (e : Option Entry) (d f : Data) → IsManifest e d → IsManifest e f → d ≡ f
+same_manifest e d f h k = same_data h.bytes k.bytes d f (same_bytes e h.bytes k.bytes h.stands.is k.stands.is) h.text k.text
+
+built_at : (registry : Option Tree) (i : Inputs) (own : List Pair) (packages : List Package) (t u r : Tree) (old new : Option Tree) → registry ≡ Some r → old ≡ Some t → new ≡ Some u → Installs registry i.place own packages old new → IsBuilt u (plan_of r (modules_path i.place) own packages)
+built_at registry i own packages t u r old new er eo en h =
+    let at : Installs (Some r) i.place own packages (Some t) new = subst (λ (o : Option Tree). Installs o i.place own packages (Some t) new) er (subst (λ (o : Option Tree). Installs registry i.place own packages o new) eo h) in
+    let same : at.0 ≡ u = let both : Some at.0 ≡ Some u = sym at.1 ∙ en in cc in
+    subst (λ (v : Tree). IsBuilt v (plan_of r (modules_path i.place) own packages)) same at.2.built
+
+done_found : (i : Inputs) (old new : World) (packages : List Package) → ((u : Tree) → new.project.tree ≡ Some u → IsTree u) → IsDone i packages old new
+    → (r t u : Tree) (d : Data) → old.registry.tree ≡ Some r → old.project.tree ≡ Some t → new.project.tree ≡ Some u → IsManifest (t (package_name ∷ i.place)) d → Finds r u i.place (edges_of d)
+done_found i old new packages tree is r t u d er et eu manifest =
+    let p = is.passed in
+    let read : IsManifest (t (package_name ∷ i.place)) p.value = subst (λ (o : Option Tree). IfSome o (λ t. IsManifest (t (package_name ∷ i.place)) p.value)) et p.manifest.read in
+    let same : p.value ≡ d = same_manifest (t (package_name ∷ i.place)) p.value d read manifest in
+    let own = edges_of p.value in
+    let met = p.behind.met in
+    subst (λ (v : Data). Finds r u i.place (edges_of v)) same
+    (all_found r u i.place own met packages (tree u eu) (subst (λ (o : Option Tree). IsReached o own met) er p.behind.reached) (subst (λ (o : Option Tree). ArePackages o own met packages) er p.behind.tree.packages)
+    (built_at old.registry.tree i own packages t u r old.project.tree new.project.tree er et eu is.written.project))
+
+pub lookup_of : (i : Inputs) (old new : World) (s : Status) → ((u : Tree) → new.project.tree ≡ Some u → IsTree u) → CauseOf i old new s → LookupOf i old new s
+lookup_of i old new Done tree h = done_found i old new h.0 tree h.1
+lookup_of i old new s tree h = tt

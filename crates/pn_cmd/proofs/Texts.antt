@@ -1,0 +1,18 @@
+-- The text of a manifest's path in the registry.
+use Rattle.std.proofs.Common.{◌≡◌, ℕ, List, [], ◌∷◌, ◌++◌, refl, sym, ap, ◌∙◌, codes}
+use Rattle.pn_text.specs.Path.{Path, text_below, path_text, SpellsParts}
+use Rattle.pn_text.specs.Name.{name_path}
+use Rattle.pn_manifest.specs.Exact.{Id}
+use Rattle.pn_registry.specs.Places.{manifest_path}
+use Rattle.pn_cmd.specs.Graph.{registry_text}
+
+append_assoc : (xs ys zs : List ℕ) → (xs ++ ys) ++ zs ≡ xs ++ (ys ++ zs)
+append_assoc [] ys zs = refl
+append_assoc (x ∷ xs) ys zs = ap (λ (l : List ℕ). x ∷ l) (append_assoc xs ys zs)
+
+-- the name's parts, the version and the file's name, each behind a slash
+pub manifest_line : (id : Id) (p : Path) (text : List ℕ) → p ≡ name_path id.name → SpellsParts text p → codes "registry:/" ++ text ++ codes "/" ++ id.version ++ codes "/package.json" ≡ registry_text (manifest_path id)
+manifest_line id p text at spells =
+    ap (λ (l : List ℕ). codes "registry:" ++ l)
+    (ap (λ (l : List ℕ). l ++ 47 ∷ (id.version ++ codes "/package.json")) (spells.spelled ∙ ap text_below at)
+    ∙ sym (append_assoc (text_below (name_path id.name)) (47 ∷ id.version) (codes "/package.json")))
