@@ -1,7 +1,7 @@
 -- The packages that were met are the least set that is closed under dependencies.
-use Rattle.std.proofs.Common.{◌≡◌, ◌≤◌, ◌<◌, ℕ, suc, zero, List, [], ◌∷◌, ◌++◌, Bool, true, false, not, cond, Option, Some, length, map, take, drop, get_or, refl, sym, ap, ◌∙◌, subst, arith, codes, append_assoc, add-one}
+use Rattle.std.proofs.Common.{◌≡◌, ◌≤◌, ◌<◌, ℕ, suc, zero, List, [], ◌∷◌, ◌++◌, true, false, not, cond, Option, Some, length, map, take, drop, get_or, refl, sym, ap, ◌∙◌, subst, arith, codes, add-one}
 use Rattle.std.specs.List.{All, Contains}
-use Rattle.std.proofs.lemmas.List.{map-append, append-nil, take_all, take-append-drop, get_or-map}
+use Rattle.std.proofs.lemmas.List.{map-append, append-nil, take_all, get_or-map, length-map}
 use Rattle.std.proofs.lemmas.List.Elements.{All-nil, All-cons, All-head, All-tail, All-append, All-weaker, All-map, All-contains, All-contains_itself, All-filter, All-get_or, All-more, All-take, filter_passes, Contains-append_right}
 use Rattle.serde_json.specs.Data.{Data}
 use Rattle.pn_text.specs.declared.ids.Edge.{Edge}
@@ -12,13 +12,13 @@ use Rattle.pn_manifest.specs.Fields.{edges_of}
 use Rattle.pn_registry.specs.Places.{manifest_path}
 use Rattle.pn_registry.specs.Package.{IsText}
 use Rattle.pn_choice.specs.Edges.{id_of, id_text, target, targets, edge_of, edges_from, package_edges, edges_in, all_edges}
-use Rattle.pn_choice.specs.Firsts.{same_id, without, firsts, is_in, IsDistinct}
+use Rattle.pn_choice.specs.Firsts.{same_id, without, firsts, IsDistinct}
 use Rattle.pn_choice.specs.Found.{IsPackage}
 use Rattle.pn_choice.specs.Walked.{IsReached}
 use Rattle.pn_choice.specs.Reaches.{Reaches, direct, through, pair_id, ReachLaw}
 use Rattle.pn_choice.specs.declared.package.Package.{Package}
-use Rattle.pn_choice.proofs.Once.{same_id-is, same_id-refl, firsts_more}
-use Rattle.pn_choice.proofs.Going.{edges_in-append}
+use Rattle.pn_choice.proofs.Once.{same_id-is, same_id-refl, IsFrontOf, firsts_front, get_or-front}
+use Rattle.pn_choice.proofs.Going.{all_split}
 
 -- each first is one of the list
 firsts_from : (xs : List Id) → All (Contains xs) (firsts xs)
@@ -71,26 +71,6 @@ distinct_firsts : (xs : List Id) → IsDistinct (firsts xs)
 distinct_firsts [] = tt
 distinct_firsts (x ∷ xs) = (not_without x (firsts xs), distinct_without x (firsts xs) (distinct_firsts xs))
 
-record IsFrontOf (xs ys : List Id) : Type 0 where
-  more : List Id
-  is : ys ≡ xs ++ more
-
--- more behind a list only adds firsts
-firsts_front : (xs ys : List Id) → IsFrontOf (firsts xs) (firsts (xs ++ ys))
-firsts_front xs [] = record { more = []; is = ap firsts (append-nil xs) ∙ sym (append-nil (firsts xs)) }
-firsts_front xs (y ∷ ys) =
-    let rest = firsts_front (xs ++ y ∷ []) ys in
-    longer (firsts xs) y (is_in y (firsts xs)) (firsts (xs ++ y ∷ ys)) rest.more (ap firsts (sym (append_assoc xs (y ∷ []) ys)) ∙ rest.is ∙ ap (λ (l : List Id). l ++ rest.more) (firsts_more xs y))
-  where
-    longer : (fs : List Id) (y : Id) (b : Bool) (all more : List Id) → all ≡ cond b fs (fs ++ y ∷ []) ++ more → IsFrontOf fs all
-    longer fs y true all more e = record { more = more; is = e }
-    longer fs y false all more e = record { more = y ∷ more; is = e ∙ append_assoc fs (y ∷ []) more }
-
-get_or-front : (xs ys : List Id) (k : ℕ) (d : Id) → k < length xs → get_or (xs ++ ys) k d ≡ get_or xs k d
-get_or-front [] ys k d h = absurd (omega arith)
-get_or-front (x ∷ xs) ys zero d h = refl
-get_or-front (x ∷ xs) ys (suc k) d h = get_or-front xs ys k d (omega arith)
-
 -- the targets of the edges of packages that are reached
 edges_reach : (t : Tree) (own : List Pair) (ps : List Package) → All (IsPackage (Some t)) ps → All (λ (q : Package). Reaches t own q.id) ps → All (λ e. Reaches t own (target e)) (edges_in ps)
 edges_reach t own [] found reached = All-nil (λ e. Reaches t own (target e))
@@ -108,23 +88,33 @@ all_reach t own ps found reached =
     (All-map (λ e. Reaches t own (target e)) (edge_of (codes ".")) own (All-weaker (Contains own) (λ p. Reaches t own (pair_id p)) (λ p c. direct p c) own (All-contains_itself own)))
     (edges_reach t own ps found reached)
 
+-- The package at a place is the first one at that place to which the edges of those before it lead.
+pub next_id : (own : List Pair) (met : List Package) (d : Package) (n : ℕ) → IsFrontOf (map id_of met) (firsts (targets (all_edges own met))) → n < length met → n < length (firsts (targets (all_edges own (take n met))))
+    → get_or (firsts (targets (all_edges own (take n met)))) n (id_of d) ≡ id_of (get_or met n d)
+next_id own met d n ids within before =
+    let A = all_edges own (take n met) in
+    let B = edges_in (drop n met) in
+    let F = firsts (targets A) in
+    let front = firsts_front (targets A) (targets B) in
+    let all : firsts (targets (all_edges own met)) ≡ F ++ front.more = ap (λ (l : List Edge). firsts (targets l)) (all_split own n met) ∙ ap firsts (map-append target A B) ∙ front.is in
+    let same : F ++ front.more ≡ map id_of met ++ ids.more = sym all ∙ ids.is in
+    sym (get_or-front F front.more n (id_of d) before)
+    ∙ ap (λ (l : List Id). get_or l n (id_of d)) same
+    ∙ get_or-front (map id_of met) ids.more n (id_of d) (omega (arith, length-map met id_of, within))
+    ∙ get_or-map id_of met n d (id_of d) within
+
+-- all packages that the edges lead to are met
+pub ids_reached : (r : Option Tree) (own : List Pair) (met : List Package) → IsReached r own met → IsFrontOf (map id_of met) (firsts (targets (all_edges own met)))
+ids_reached r own met h = record { more = []; is = sym h.walked.ids ∙ sym (append-nil (map id_of met)) }
+
 -- one package more is reached
 next_reached : (t : Tree) (own : List Pair) (met : List Package) (d : Package) (n : ℕ) → IsReached (Some t) own met → n < length met → All (λ (q : Package). Reaches t own q.id) (take n met) → Reaches t own (get_or met n d).id
 next_reached t own met d n h within reached =
     let A = all_edges own (take n met) in
-    let B = edges_in (drop n met) in
     let F = firsts (targets A) in
-    let targets_of : targets (all_edges own met) ≡ targets A ++ targets B =
-    ap (λ (l : List Package). targets (all_edges own l)) (sym (take-append-drop n met))
-    ∙ ap (λ (l : List Edge). targets (edges_from (codes ".") own ++ l)) (edges_in-append (take n met) (drop n met))
-    ∙ ap targets (sym (append_assoc (edges_from (codes ".") own) (edges_in (take n met)) B))
-    ∙ map-append target A B in
-    let front = firsts_front (targets A) (targets B) in
-    let ids : map id_of met ≡ F ++ front.more = h.walked.ids ∙ ap firsts targets_of ∙ front.is in
     let led : All (Reaches t own) (targets A) = All-map (Reaches t own) target A (all_reach t own (take n met) (All-take (IsPackage (Some t)) n met h.walked.found) reached) in
     let firsts_led : All (Reaches t own) F = All-weaker (Contains (targets A)) (Reaches t own) (λ x c. All-contains (Reaches t own) (targets A) x led c) F (firsts_from (targets A)) in
-    let at : get_or F n (id_of d) ≡ id_of (get_or met n d) =
-    sym (get_or-front F front.more n (id_of d) (h.before n within)) ∙ ap (λ (l : List Id). get_or l n (id_of d)) (sym ids) ∙ get_or-map id_of met n d (id_of d) within in
+    let at : get_or F n (id_of d) ≡ id_of (get_or met n d) = next_id own met d n (ids_reached (Some t) own met h) within (h.before n within) in
     subst (Reaches t own) at (All-get_or (Reaches t own) F n (id_of d) (h.before n within) firsts_led)
 
 up_to : (t : Tree) (own : List Pair) (met : List Package) (d : Package) → IsReached (Some t) own met → (n : ℕ) → n ≤ length met → All (λ (q : Package). Reaches t own q.id) (take n met)
@@ -146,12 +136,12 @@ All-left : {X : Type 0} (P : X → Type 0) (xs ys : List X) → All P (xs ++ ys)
 All-left P [] ys h = All-nil P
 All-left P (x ∷ xs) ys h = All-cons P x xs (All-head P x (xs ++ ys) h) (All-left P xs ys (All-tail P x (xs ++ ys) h))
 
-All-right : {X : Type 0} (P : X → Type 0) (xs ys : List X) → All P (xs ++ ys) → All P ys
+pub All-right : {X : Type 0} (P : X → Type 0) (xs ys : List X) → All P (xs ++ ys) → All P ys
 All-right P [] ys h = h
 All-right P (x ∷ xs) ys h = All-right P xs ys (All-tail P x (xs ++ ys) h)
 
 -- a file has one value
-text_once : (e : Option Entry) (v w : Data) → IsText e v → IsText e w → v ≡ w
+pub text_once : (e : Option Entry) (v w : Data) → IsText e v → IsText e w → v ≡ w
 text_once e v w a b =
     let i = a.is in
     let j = b.is in
@@ -180,11 +170,17 @@ unfolding Closed
 complete t own ids first next _ (direct e c) = All-contains (λ p. Contains ids (pair_id p)) own e first c
 complete t own ids first next _ (through id v e r text c) = All-contains (Closed t ids) ids id next (complete t own ids first next id r) v e text c
 
+-- each edge leads to one of the packages
+pub leads_to : (r : Option Tree) (own : List Pair) (met : List Package) → IsReached r own met → All (λ e. Contains (map id_of met) (target e)) (all_edges own met)
+leads_to r own met h =
+    let all = targets (all_edges own met) in
+    All-unmap (Contains (map id_of met)) target (all_edges own met) (subst (λ (l : List Id). All (Contains l) all) (sym h.walked.ids) (firsts_all all))
+
 pub least : ReachLaw
 least t own met h =
     let ids = map id_of met in
     let all = targets (all_edges own met) in
-    let led : All (λ e. Contains ids (target e)) (all_edges own met) = All-unmap (Contains ids) target (all_edges own met) (subst (λ (l : List Id). All (Contains l) all) (sym h.walked.ids) (firsts_all all)) in
+    let led : All (λ e. Contains ids (target e)) (all_edges own met) = leads_to (Some t) own met h in
     let first = All-unmap (λ e. Contains ids (target e)) (edge_of (codes ".")) own (All-left (λ e. Contains ids (target e)) (edges_from (codes ".") own) (edges_in met) led) in
     let next = All-map (Closed t ids) id_of met (closed t ids met h.walked.found (All-right (λ e. Contains ids (target e)) (edges_from (codes ".") own) (edges_in met) led)) in
     record {

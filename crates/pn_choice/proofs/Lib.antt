@@ -4,3 +4,4 @@ pub mod Taking
 pub mod Going
 pub mod Least
 pub mod Sorting
+pub mod Settled

@@ -1,5 +1,5 @@
 -- Ids, each once, and one more.
-use Rattle.std.proofs.Common.{◌≡◌, ℕ, List, [], ◌∷◌, ◌++◌, Bool, true, false, not, ◌||◌, cond, refl, ap, ◌∙◌, subst}
+use Rattle.std.proofs.Common.{◌≡◌, ◌<◌, ℕ, zero, suc, List, [], ◌∷◌, ◌++◌, Bool, true, false, not, ◌||◌, cond, length, get_or, refl, sym, ap, ◌∙◌, subst, arith, append_assoc}
 use Rattle.std.specs.Str.{bytes_eq}
 use Rattle.std.proofs.lemmas.Slice.Eq.{bytes_eq-Decides}
 use Rattle.std.proofs.lemmas.List.{append-nil}
@@ -55,3 +55,24 @@ firsts_known xs x h = firsts_more xs x ∙ ap (λ b. cond b (firsts xs) (firsts 
 
 pub firsts_new : (xs : List Id) (x : Id) → is_in x (firsts xs) ≡ false → firsts (xs ++ x ∷ []) ≡ firsts xs ++ x ∷ []
 firsts_new xs x h = firsts_more xs x ∙ ap (λ b. cond b (firsts xs) (firsts xs ++ x ∷ [])) h
+
+-- a list, and perhaps more behind it
+pub record IsFrontOf (xs ys : List Id) : Type 0 where
+  pub more : List Id
+  pub is : ys ≡ xs ++ more
+
+-- more behind a list only adds firsts
+pub firsts_front : (xs ys : List Id) → IsFrontOf (firsts xs) (firsts (xs ++ ys))
+firsts_front xs [] = record { more = []; is = ap firsts (append-nil xs) ∙ sym (append-nil (firsts xs)) }
+firsts_front xs (y ∷ ys) =
+    let rest = firsts_front (xs ++ y ∷ []) ys in
+    longer (firsts xs) y (is_in y (firsts xs)) (firsts (xs ++ y ∷ ys)) rest.more (ap firsts (sym (append_assoc xs (y ∷ []) ys)) ∙ rest.is ∙ ap (λ (l : List Id). l ++ rest.more) (firsts_more xs y))
+  where
+    longer : (fs : List Id) (y : Id) (b : Bool) (all more : List Id) → all ≡ cond b fs (fs ++ y ∷ []) ++ more → IsFrontOf fs all
+    longer fs y true all more e = record { more = more; is = e }
+    longer fs y false all more e = record { more = y ∷ more; is = e ∙ append_assoc fs (y ∷ []) more }
+
+pub get_or-front : (xs ys : List Id) (k : ℕ) (d : Id) → k < length xs → get_or (xs ++ ys) k d ≡ get_or xs k d
+get_or-front [] ys k d h = absurd (omega arith)
+get_or-front (x ∷ xs) ys zero d h = refl
+get_or-front (x ∷ xs) ys (suc k) d h = get_or-front xs ys k d (omega arith)

@@ -6,3 +6,4 @@ pub mod Refusals
 pub mod Walks
 pub mod Reaches
 pub mod Keyed
+pub mod Laws

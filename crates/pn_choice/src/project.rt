@@ -3,6 +3,7 @@ ghost use Rattle.std.specs.Prelude.{◌≡◌, OnOk, IfOk, IfErr, List, codes};
 ghost use Rattle.pn_text.specs.declared.ids.Edge.{Edge as TheEdge};
 ghost use Rattle.pn_fs.specs.Seen.{Keeps};
 ghost use Rattle.pn_choice.specs.Edges.{edges_by, edges_from};
+ghost use Rattle.pn_choice.specs.Laws.{PassedLaw, SameLaw};
 ghost use Rattle.pn_choice.specs.Reaches.{ReachLaw};
 ghost use Rattle.pn_choice.specs.Refusals.{Refuses, IsStopped};
 ghost use Rattle.pn_choice.specs.Walked.{IsReached};
@@ -40,6 +41,16 @@ pub fn reach<R: ReadFs>(
 /// The packages that are told are exactly those that dependencies lead to.
 pub fn reach_law()
     ensures { ReachLaw }
+{}
+
+/// Where the packages are reached, no edge is refused.
+pub fn passed_law()
+    ensures { PassedLaw }
+{}
+
+/// The packages that are reached, and their order, are settled by the registry.
+pub fn same_law()
+    ensures { SameLaw }
 {}
 
 // Takes the project's own edges.

@@ -9,7 +9,7 @@ use Rattle.pn_manifest.specs.Pairs.{Pair}
 use Rattle.pn_choice.specs.Walked.{IsReached}
 use Rattle.pn_choice.specs.declared.package.Package.{Package as Found}
 use Rattle.pn_choice.specs.declared.fault.ReachFault.TheVariants.{NotYet as FaultNotYet, NoVersion as FaultNoVersion, TextLimit as FaultText, Manifest as FaultManifest, Packages as FaultPackages}
-use Rattle.pn_choice.proofs.Passed.{passed as reached_passed}
+use Rattle.pn_choice.proofs.Settled.{passed as reached_passed}
 use Rattle.pn_layout.specs.declared.packages.Package.{Package}
 use Rattle.pn_collect.specs.Packages.{ArePackages}
 use Rattle.pn_collect.specs.declared.fault.CollectFault.TheVariants.{Modules, TooLarge, LongPath, Entries as FaultEntries}

@@ -27,7 +27,9 @@ loop-at-preserved g c =
     }
 
 pub returns-in-Err-clause-refused : goal.returns-in-Err-clause-refused
-returns-in-Err-clause-refused g c = λ own h. stops_on (g.R.ReadFs.seen c.args.registry.now) (g.R.ReadFs.seen c.loop-at.registry) (g.R.ReadFs.seen c.take_at.new.registry) own c.loop-at.at c.loop-at.self c.in-Err.fault c.loop-at.invariant.kept (c.loop-at.invariant.along own h) c.in-Err.ensures.refused
+returns-in-Err-clause-refused g c = λ own h.
+    let within : c.loop-at.at < length c.loop-at.self.packages.items = omega (arith, c.if-at-len.false, c.len.ensures, c.loop-at.self.packages.ok.0) in
+    stops_on (g.R.ReadFs.seen c.args.registry.now) (g.R.ReadFs.seen c.loop-at.registry) (g.R.ReadFs.seen c.take_at.new.registry) own c.loop-at.at c.loop-at.self c.in-Err.fault within c.loop-at.invariant.kept (c.loop-at.invariant.along own h) c.in-Err.ensures.refused
 
 pub returns-clause-reached : goal.returns-clause-reached
 returns-clause-reached g c = λ own h.

@@ -1,0 +1,16 @@
+-- The answer is settled by the registry.
+use Rattle.std.specs.Prelude.{◌≡◌, List, Some}
+use Rattle.pn_fs.specs.Tree.{Tree}
+use Rattle.pn_manifest.specs.Pairs.{Pair}
+use Rattle.pn_choice.specs.Refusals.{IsStopped}
+use Rattle.pn_choice.specs.Walked.{IsReached}
+use Rattle.pn_choice.specs.declared.package.Package.{Package}
+use Rattle.pn_choice.specs.declared.fault.ReachFault.{ReachFault}
+
+-- Where the packages are reached, no edge is refused.
+abbrev pub PassedLaw : Type 0
+PassedLaw = (t : Tree) (own : List Pair) (met : List Package) (fault : ReachFault) → IsReached (Some t) own met → IsStopped own (Some t) fault → ⊥
+
+-- The packages that are reached are the same ones, in the same order.
+abbrev pub SameLaw : Type 0
+SameLaw = (t : Tree) (own : List Pair) (met others : List Package) → IsReached (Some t) own met → IsReached (Some t) own others → met ≡ others
