@@ -1,7 +1,6 @@
 pub mod Steps
 mod FoundManifests
 mod Texts
-mod Faults
 mod Stages
 mod Written
 mod Endings

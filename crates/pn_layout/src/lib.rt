@@ -9,6 +9,8 @@ mod laws;
 mod leaves;
 mod packages;
 mod plan;
+#[cfg(test)]
+mod tests;
 mod texts;
 
 pub use fault::LayoutFault;
