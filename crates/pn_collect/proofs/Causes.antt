@@ -1,8 +1,7 @@
 -- Why packages are refused.
-use Rattle.std.proofs.Common.{◌≡◌, ◌<◌, ◌≤◌, ℕ, List, ◌++◌, Option, Some, None, Result, Ok, Err, IfOk, IfErr, IfSome, length, map, get_or, refl, sym, subst, arith, IsPermutation}
+use Rattle.std.proofs.Common.{◌≡◌, ◌<◌, ◌≤◌, ℕ, List, ◌++◌, Option, Some, None, Result, Ok, Err, IfOk, IfErr, IfSome, length, map, get_or, refl, sym, subst, arith}
 use Rattle.std.specs.List.{All, Contains}
-use Rattle.std.proofs.lemmas.List.Elements.{All-get_or, Contains-get_or}
-use Rattle.std.proofs.lemmas.List.Sorted.{IsPermutation-sym, Contains-permutation}
+use Rattle.std.proofs.lemmas.List.Elements.{All-get_or}
 use Rattle.pn_text.specs.Path.{Path, path_text}
 use Rattle.pn_fs.specs.Seen.{Seen, Keeps}
 use Rattle.pn_fs.specs.Tree.{Tree, Entry, file, IsTree}
@@ -12,7 +11,7 @@ use Rattle.pn_registry.specs.Listed.{file_of}
 use Rattle.pn_registry.specs.declared.list.PackageFile.{PackageFile}
 use Rattle.pn_registry.specs.FilesFaults.{FilesRefused, IsFirstModules}
 use Rattle.pn_registry.specs.Places.{package_folder}
-use Rattle.pn_registry.specs.declared.contents.FilesFault.TheVariants.{Modules as FileModules, TooLarge as FileTooLarge}
+use Rattle.pn_registry.specs.declared.contents.FilesFault.TheVariants.{Modules as FileModules}
 use Rattle.pn_choice.specs.Edges.{id_text}
 use Rattle.pn_choice.specs.Found.{IsPackage, HasFolder}
 use Rattle.pn_choice.specs.declared.package.Package.{Package as Found}
@@ -73,9 +72,6 @@ named id old new q (LongPath n) trees h k = record {
 named id old new q Entries trees h k = absurd k
 named id old new q Fault trees h k = absurd k
 named id old new q Memory trees h k = tt
-
-pub large : (id : Id) (old new : Seen) (q : Path) (n : ℕ) → FilesRefused (package_folder id) old new (FileTooLarge q n) → CollectRefuses (λ r. NoFiles r id) old new (TooLarge n)
-large id old new q n h = (q, h.0, h.1)
 
 pub refuses_from : (C : Option Tree → CollectFault → Type 0) (old mid new : Seen) (fault : CollectFault) → Keeps old mid → CollectRefuses C mid new fault → CollectRefuses C old new fault
 refuses_from C old mid new (Modules path) k h = subst (λ (r : Option Tree). C r (Modules path)) k.tree h

@@ -1,22 +1,19 @@
 -- A package that has its files isn't refused.
-use Rattle.std.proofs.Common.{◌≡◌, ℕ, List, ◌∷◌, ◌++◌, Option, Some, inl, inr, sym, ap, ◌∙◌, subst, arith, map}
+use Rattle.std.proofs.Common.{◌≡◌, List, ◌∷◌, ◌++◌, Some, inl, inr, sym, ap, ◌∙◌, subst, arith, map}
 use Rattle.std.specs.List.{Contains}
 use Rattle.std.proofs.lemmas.List.Elements.{Contains-append_right}
 use Rattle.std.proofs.lemmas.List.Sorted.{IsPermutation-sym, Contains-permutation}
 use Rattle.pn_text.specs.Path.{Path}
-use Rattle.pn_fs.specs.Tree.{Tree, Entry}
+use Rattle.pn_fs.specs.Tree.{Tree}
 use Rattle.pn_node.specs.Plan.{IsSoundFile}
 use Rattle.pn_manifest.specs.Exact.{Id}
 use Rattle.pn_registry.specs.Below.{HasMany}
 use Rattle.pn_registry.specs.FilesFaults.{entry_limit}
 use Rattle.pn_registry.specs.Places.{package_folder}
 use Rattle.pn_registry.proofs.Lists.{here}
-use Rattle.pn_choice.specs.declared.package.Package.{Package as Found}
-use Rattle.pn_layout.specs.declared.packages.Package.{Package}
-use Rattle.pn_collect.specs.CollectFaults.{NoFiles, IsFirstRefused}
+use Rattle.pn_collect.specs.CollectFaults.{NoFiles}
 use Rattle.pn_collect.specs.Laws.{PassedLaw}
 use Rattle.pn_collect.specs.Outline.{Outline, outline, wanted, AreFilesBelow}
-use Rattle.pn_collect.specs.Packages.{ArePackages}
 use Rattle.pn_collect.specs.declared.fault.CollectFault.{CollectFault}
 use Rattle.pn_collect.specs.declared.fault.CollectFault.TheVariants.{Modules, TooLarge, LongPath, Entries, Fault, Memory}
 use Rattle.pn_collect.proofs.Counts.{no_longer}

@@ -1,14 +1,11 @@
 // One package of an install.
-ghost use Rattle.std.specs.Prelude.{◌≡◌, ◌≢◌, ◌≤◌, length, IfOk, IfErr, OnOk, IfSome, true};
+ghost use Rattle.std.specs.Prelude.{◌≡◌, ◌≤◌, length, IfOk, IfErr, IfSome, true};
 ghost use Rattle.pn_text.specs.Name.{is_name};
 ghost use Rattle.pn_fs.specs.Seen.{Keeps};
-ghost use Rattle.pn_fs.specs.Tree.{IsFile};
-ghost use Rattle.pn_manifest.specs.Exact.{is_exact};
 ghost use Rattle.pn_manifest.specs.Pairs.{IsRising};
 ghost use Rattle.pn_registry.specs.Places.{package_folder};
 ghost use Rattle.pn_choice.specs.Edges.{id_text};
 ghost use Rattle.pn_choice.specs.Found.{HasFolder};
-ghost use Rattle.pn_layout.specs.Sound.{called, IsSoundPair};
 ghost use Rattle.pn_collect.specs.CollectFaults.{CollectRefuses, NoFiles};
 ghost use Rattle.pn_collect.specs.Outline.{outline, wanted, HasFiles, AreSoundFiles, IsMade, AreFilesBelow, IsBare};
 
