@@ -1,6 +1,6 @@
 -- Lemmas on how a run ends.
 use Rattle.std.proofs.Common.{◌≡◌, ◌≢◌, ◌∷◌, ℕ, List, refl, sym, ◌∙◌, subst, inl, inr, ◌⊎◌, Option, Some, None}
-use Rattle.std.specs.Prelude.{Result, Ok, Err, IfSome, IfErr, OnErr}
+use Rattle.std.specs.Prelude.{IfSome}
 use Rattle.std.specs.Option.{ForSome}
 use Rattle.pn_text.specs.Path.{Path}
 use Rattle.pn_fs.specs.Tree.{folder, Tree, IsTree}
@@ -52,7 +52,7 @@ pub ready_copyable : (i : Inputs) (old new : Sources) (ready : Ready) → AreKep
 ready_copyable i old new ready k is r told =
     let at : old.registry.tree ≡ Some r = sym k.registry.tree ∙ told in
     let p = is.passed in
-    let files : HaveFiles r ready.packages.items = subst (λ (o : Option Tree). IfSome o (λ r. HaveFiles r ready.packages.items)) at p.behind.tree.packages.files in
+    let files : HaveFiles r ready.packages.items = subst (λ (o : Option Tree). IfSome o (λ r. HaveFiles r ready.packages.items)) at p.behind.tree.listed.files in
     can_copy r i.place (edges_of p.value) ready.packages.items ready.plan is.plan files
 
 -- a stop of the writing behind calls that only read is one from before them
@@ -64,11 +64,9 @@ stops_from (Limit File n) old mid new k h = (h.0, subst (λ (o : Option Tree). I
 stops_from s old mid new k h = absurd h
 
 -- how a run ends in the writing
-pub stopped_by : {T : Type 0} (r : Result T Status) (i : Inputs) (old mid new : Sources) (out : Taken) (ready : Ready) → AreKept old mid → IsReady i old ready → Keeps mid.registry new.registry
-    → OnErr r (DiffersOnly (is_planned ready.plan) mid.project.tree new.project.tree) → IfErr r (Stops mid new)
-    → IfErr r (Ends i (world old.project old.registry out) (world new.project new.registry out))
-stopped_by (Ok v) i old mid new out ready k is held differs stops = tt
-stopped_by (Err s) i old mid new out ready k is held differs stops =
+pub stopped_by : (s : Status) (i : Inputs) (old mid new : Sources) (out : Taken) (ready : Ready) → AreKept old mid → IsReady i old ready → Keeps mid.registry new.registry
+    → DiffersOnly (is_planned ready.plan) mid.project.tree new.project.tree → Stops mid new s → Ends i (world old.project old.registry out) (world new.project new.registry out) s
+stopped_by s i old mid new out ready k is held differs stops =
     let p = is.passed in
     stopped s ready.packages.items p (stops_from s old mid new k stops) (record {
       project = only_below i.place (edges_of p.value) ready.packages.items ready.plan old.project.tree new.project.tree is.plan (subst (λ t. DiffersOnly (is_planned ready.plan) t new.project.tree) k.project.tree differs);
@@ -83,7 +81,7 @@ written_by i old mid new out later ready tree k is held writes =
     let p = is.passed in
     let from_registry : Writes old.registry.tree ready.plan mid.project.tree new.project.tree = subst (λ r. Writes r ready.plan mid.project.tree new.project.tree) k.registry.tree writes in
     record {
-      project = installs old.registry.tree i.place (edges_of p.value) ready.packages.items ready.plan old.project.tree new.project.tree is.plan p.behind.tree.packages.stand tree p.behind.tree.modules.absent
+      project = installs old.registry.tree i.place (edges_of p.value) ready.packages.items ready.plan old.project.tree new.project.tree is.plan p.behind.tree.listed.stand tree p.behind.tree.modules.absent
           (subst (λ t. Writes old.registry.tree ready.plan t new.project.tree) k.project.tree from_registry);
       registry = held.tree ∙ k.registry.tree;
     }

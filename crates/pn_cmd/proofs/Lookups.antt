@@ -44,10 +44,10 @@ use Rattle.pn_cmd.proofs.Tables.{same_bytes, same_data}
 
 -- a package that is reached, as it is installed
 record IsOne (id : Id) (value : Data) (packages : List Package) : Type 0 where
-  pub package : Package
-  pub here : Contains packages package
-  pub same : called package ≡ (id.name, id.version)
-  pub edges : package.dependencies ≡ edges_of value
+  pub found : Package
+  pub here : Contains packages found
+  pub same : called found ≡ (id.name, id.version)
+  pub edges : found.dependencies ≡ edges_of value
 
 one_of : (r : Tree) (own : List Pair) (met : List Found) (packages : List Package) (id : Id) (value : Data) → IsReached (Some r) own met → ArePackages (Some r) own met packages → Reaches r own id → IsText (r (manifest_path id)) value → IsOne id value packages
 one_of r own met packages id value reached are reaches text =
@@ -56,7 +56,7 @@ one_of r own met packages id value reached are reaches text =
     let p = from_map outline packages (wanted q.0) (Contains-permutation (map wanted met) (map outline packages) (wanted q.0) are.exact (in_map wanted met q.0 q.1)) in
     let value_is : found.value ≡ value = text_once (r (manifest_path id)) found.value value (subst (λ (i : Id). IsText (r (manifest_path i)) found.value) q.2 found.manifest.text) text in
     record {
-      package = p.0;
+      found = p.0;
       here = p.1;
       same = ap (λ (o : Outline). o.pair) p.2 ∙ ap (λ (i : Id). (i.name, i.version)) q.2;
       edges = ap (λ (o : Outline). o.dependencies) p.2 ∙ found.edges ∙ ap edges_of value_is;
@@ -76,10 +76,10 @@ inside_is : (r u : Tree) (place : Path) (own : List Pair) (met : List Found) (pa
     → (id : Id) (value : Data) (inner : Path) → Reaches r own id → IsText (r (manifest_path id)) value → u (inner ++ package_home place id) ≡ Some folder → FindsFrom u place id (edges_of value) (inner ++ package_home place id)
 inside_is r u place own met packages reached are all id value inner reaches text stands =
     let one = one_of r own met packages id value reached are reaches text in
-    let home : home_of (modules_path place) (called one.package) ≡ package_home place id = ap (home_of (modules_path place)) one.same in
+    let home : home_of (modules_path place) (called one.found) ≡ package_home place id = ap (home_of (modules_path place)) one.same in
     subst (λ (h : Path). FindsFrom u place id (edges_of value) (inner ++ h)) home
-    (own_is u place id value one.package (inner ++ home_of (modules_path place) (called one.package)) one.same one.edges
-    (all.inside one.package inner one.here (subst (λ (h : Path). u (inner ++ h) ≡ Some folder) (sym home) stands)))
+    (own_is u place id value one.found (inner ++ home_of (modules_path place) (called one.found)) one.same one.edges
+    (all.inside one.found inner one.here (subst (λ (h : Path). u (inner ++ h) ≡ Some folder) (sym home) stands)))
 
 all_found : (r u : Tree) (place : Path) (own : List Pair) (met : List Found) (packages : List Package) → IsTree u → IsReached (Some r) own met → ArePackages (Some r) own met packages → IsBuilt u (plan_of r (modules_path place) own packages) → Finds r u place own
 all_found r u place own met packages tree reached are is_built =
@@ -105,7 +105,7 @@ done_found i old new packages tree is r t u d er et eu manifest =
     let own = edges_of p.value in
     let met = p.behind.met in
     subst (λ (v : Data). Finds r u i.place (edges_of v)) same
-    (all_found r u i.place own met packages (tree u eu) (subst (λ (o : Option Tree). IsReached o own met) er p.behind.reached) (subst (λ (o : Option Tree). ArePackages o own met packages) er p.behind.tree.packages)
+    (all_found r u i.place own met packages (tree u eu) (subst (λ (o : Option Tree). IsReached o own met) er p.behind.reached) (subst (λ (o : Option Tree). ArePackages o own met packages) er p.behind.tree.listed)
     (built_at old.registry.tree i own packages t u r old.project.tree new.project.tree er et eu is.written.project))
 
 pub lookup_of : (i : Inputs) (old new : World) (s : Status) → ((u : Tree) → new.project.tree ≡ Some u → IsTree u) → CauseOf i old new s → LookupOf i old new s

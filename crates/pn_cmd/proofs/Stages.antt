@@ -22,7 +22,7 @@ use Rattle.pn_cmd.specs.Standing.{NothingStands, Stands}
 use Rattle.pn_cmd.specs.Manifests.{IsFound, IsProjectManifest, NoManifest}
 use Rattle.pn_cmd.specs.Graph.{Unreached}
 use Rattle.pn_cmd.specs.Packages.{Unlisted}
-use Rattle.pn_cmd.specs.Plans.{modules_path, TooLong}
+use Rattle.pn_cmd.specs.Plans.{modules_path, TooLong, Fits, IsPlan}
 use Rattle.pn_cmd.specs.Order.{Refused, RefusedFrom, RefusedBehind, RefusedGraph, RefusedTree, RefusedPackages, PassedTree, PassedBehind}
 use Rattle.pn_cmd.specs.Readies.{IsReady, IsReadyBehind, IsReadyTree}
 use Rattle.pn_cmd.proofs.Steps.{project_from, registry_from, then_from, kept_twice, kept_both, project_kept}
@@ -58,7 +58,7 @@ behind_from place d old mid new s k h =
 
 tree_passed : (place : Path) (own : List Pair) (met : List Found) (packages : List Package) (old mid : Sources) → AreKept old mid → PassedTree place own met packages mid → PassedTree place own met packages old
 tree_passed place own met packages old mid k h =
-    record { modules = stood (modules_path place) old mid k h.modules; packages = subst (λ r. ArePackages r own met packages) k.registry.tree h.packages; fits = h.fits }
+    record { modules = stood (modules_path place) old mid k h.modules; listed = subst (λ r. ArePackages r own met packages) k.registry.tree h.listed; fits = h.fits }
 
 behind_passed : (place : Path) (d : Data) (packages : List Package) (old mid : Sources) → AreKept old mid → PassedBehind place d packages mid → PassedBehind place d packages old
 behind_passed place d packages old mid k h =
@@ -67,6 +67,15 @@ behind_passed place d packages old mid k h =
       met = h.met;
       reached = subst (λ r. IsReached r (edges_of d) h.met) k.registry.tree h.reached;
       tree = tree_passed place (edges_of d) h.met packages old mid k h.tree;
+    }
+
+-- what is ready behind the packages that are reached
+pub ready_tree : (place : Path) (own : List Pair) (met : List Found) (old : Sources) (ready : Ready) (slice : List Package) → NothingStands old.project.tree (modules_path place) → ArePackages old.registry.tree own met ready.packages.items → slice ≡ ready.packages.items
+    → Fits place own slice → IsPlan place own slice ready.plan → IsReadyTree place own met old ready
+ready_tree place own met old ready slice modules listed is fits plan =
+    record {
+      passed = record { modules = modules; listed = listed; fits = subst (Fits place own) is fits };
+      plan = subst (λ (l : List Package). IsPlan place own l ready.plan) is plan;
     }
 
 -- packages that aren't reached, behind the lockfile's place
@@ -134,7 +143,3 @@ manifest_err s i old one new words ws k h =
 -- all that was only read is as it was
 pub all_kept : (old new : Sources) (one two : Seen) → Keeps old.project one → Keeps one two → AreKept (sources two old.registry) new → AreKept old new
 all_kept old new one two k l all = kept_both old (sources two old.registry) new (project_kept old.project two old.registry (kept_twice old.project one two k l)) all
-
-pub is_true : (b c : Bool) → b ≡ c → not b ≡ false → c ≡ true
-is_true true c e h = sym e
-is_true false c e h = cc

@@ -91,7 +91,7 @@ refused_cause i old new s h =
     first_or (stands_cause i old new (lock_name ∷ i.place) s (inr (inl refl)))
     (either (λ g. reached_cause i old new s (b.0, b.1, g)) (λ m.
     first_or (stands_cause i old new (modules_path i.place) s (inr (inr refl)))
-    (either (λ g. listed_cause i old new s (b.0, b.1, m.0, m.1, g)) (λ l. long_cause i old new s (b.0, b.1, m.0, m.1, l.0, l.1, l.2))) m.2)) b.2))) h
+    (either (λ g. listed_cause i old new s (b.0, b.1, (m.0, m.1, g))) (λ l. long_cause i old new s (b.0, b.1, (m.0, m.1, (l.0, l.1, l.2))))) m.2)) b.2))) h
 
 stops_cause : (i : Inputs) (old new : World) (s : Status) → Stops (sources_of old) (sources_of new) s → CauseOf i old new s
 stops_cause i old new Memory h = tt

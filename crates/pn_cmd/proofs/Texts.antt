@@ -10,9 +10,12 @@ append_assoc : (xs ys zs : List ℕ) → (xs ++ ys) ++ zs ≡ xs ++ (ys ++ zs)
 append_assoc [] ys zs = refl
 append_assoc (x ∷ xs) ys zs = ap (λ (l : List ℕ). x ∷ l) (append_assoc xs ys zs)
 
+lead : (l : List ℕ) → codes "registry:/" ++ l ≡ codes "registry:" ++ 47 ∷ l
+lead l = refl
+
 -- the name's parts, the version and the file's name, each behind a slash
-pub manifest_line : (id : Id) (p : Path) (text : List ℕ) → p ≡ name_path id.name → SpellsParts text p → codes "registry:/" ++ text ++ codes "/" ++ id.version ++ codes "/package.json" ≡ registry_text (manifest_path id)
+pub manifest_line : (id : Id) (p : Path) (text : List ℕ) → p ≡ name_path id.name → SpellsParts text p → codes "registry:/" ++ (text ++ 47 ∷ (id.version ++ codes "/package.json")) ≡ registry_text (manifest_path id)
 manifest_line id p text at spells =
-    ap (λ (l : List ℕ). codes "registry:" ++ l)
-    (ap (λ (l : List ℕ). l ++ 47 ∷ (id.version ++ codes "/package.json")) (spells.spelled ∙ ap text_below at)
-    ∙ sym (append_assoc (text_below (name_path id.name)) (47 ∷ id.version) (codes "/package.json")))
+    lead (text ++ 47 ∷ (id.version ++ codes "/package.json"))
+    ∙ ap (λ (l : List ℕ). codes "registry:" ++ (l ++ 47 ∷ (id.version ++ codes "/package.json"))) (spells.spelled ∙ ap text_below at)
+    ∙ ap (λ (l : List ℕ). codes "registry:" ++ l) (sym (append_assoc (text_below (name_path id.name)) (47 ∷ id.version) (codes "/package.json")))

@@ -69,7 +69,7 @@ Refused i old new =
 -- The points behind the packages that are reached are passed.
 pub record PassedTree (place : Path) (own : List Pair) (met : List Found) (packages : List Package) (old : Sources) : Type 0 where
   pub modules : NothingStands old.project.tree (modules_path place)
-  pub packages : ArePackages old.registry.tree own met packages
+  pub listed : ArePackages old.registry.tree own met packages
   pub fits : Fits place own packages
 
 -- The points behind the manifest are passed.

@@ -44,8 +44,11 @@ pub fn plan(
 pub fn report(alloc: Global, count: usize) -> Result<String, AllocError>
     ensures { IfOk result (λ s. string_bytes s ≡ report_of count) }
 {
-    let mut text = format!(in alloc; "projects 1\npackages {count}")?;
-    let instances = format!(in alloc; "\ninstances {count}\n")?;
-    text.push_str(instances.as_str())?;
+    let count = format!(in alloc; "{count}")?;
+    let mut text = String::from_str(alloc, "projects 1\npackages ")?;
+    text.push_str(count.as_str())?;
+    text.push_str("\ninstances ")?;
+    text.push_str(count.as_str())?;
+    text.push_str("\n")?;
     Ok(text)
 }
