@@ -1,8 +1,7 @@
 -- Why packages are refused.
-use Rattle.std.proofs.Common.{◌≡◌, ◌<◌, ◌≤◌, ℕ, List, ◌++◌, Option, Some, None, Result, Ok, Err, IfOk, IfErr, IfSome, length, map, get_or, refl, sym, subst, arith, IsPermutation}
+use Rattle.std.proofs.Common.{◌≡◌, ◌<◌, ◌≤◌, ℕ, List, ◌++◌, Option, Some, None, Result, Ok, Err, IfOk, IfErr, IfSome, length, map, get_or, refl, sym, subst, arith}
 use Rattle.std.specs.List.{All, Contains}
-use Rattle.std.proofs.lemmas.List.Elements.{All-get_or, Contains-get_or}
-use Rattle.std.proofs.lemmas.List.Sorted.{IsPermutation-sym, Contains-permutation}
+use Rattle.std.proofs.lemmas.List.Elements.{All-get_or}
 use Rattle.pn_text.specs.Path.{Path, path_text}
 use Rattle.pn_fs.specs.Seen.{Seen, Keeps}
 use Rattle.pn_fs.specs.Tree.{Tree, Entry, file, IsTree}
@@ -12,11 +11,11 @@ use Rattle.pn_registry.specs.Listed.{file_of}
 use Rattle.pn_registry.specs.declared.list.PackageFile.{PackageFile}
 use Rattle.pn_registry.specs.FilesFaults.{FilesRefused, IsFirstModules}
 use Rattle.pn_registry.specs.Places.{package_folder}
-use Rattle.pn_registry.specs.declared.contents.FilesFault.TheVariants.{Modules as FileModules, TooLarge as FileTooLarge, Entries as FileEntries}
+use Rattle.pn_registry.specs.declared.contents.FilesFault.TheVariants.{Modules as FileModules}
 use Rattle.pn_choice.specs.Edges.{id_text}
 use Rattle.pn_choice.specs.Found.{IsPackage, HasFolder}
 use Rattle.pn_choice.specs.declared.package.Package.{Package as Found}
-use Rattle.pn_collect.specs.CollectFaults.{IsLongBelow, HasLongPath, PackageRefused, CollectRefused, IsTooLong, AreTooLong, NamesModules}
+use Rattle.pn_collect.specs.CollectFaults.{IsLongBelow, NoFiles, CollectRefuses, IsTooLong, AreTooLong, NamesModules}
 use Rattle.pn_collect.proofs.Lists.{in_image}
 use Rattle.pn_collect.specs.declared.fault.CollectFault.{CollectFault}
 use Rattle.pn_collect.specs.declared.fault.CollectFault.TheVariants.{Modules, TooLarge, LongPath, Entries, Fault, Memory}
@@ -46,7 +45,7 @@ untold_by (Some t) p trees h long = absurd (omega (arith, ((trees t refl).paths 
 long_by : (folder f : Path) (n : ℕ) → IsLongBelow folder f n → 4096 < length (path_text (f ++ folder))
 long_by folder f n h = omega (arith, h.0, h.1)
 
-pub too_long : (id : Id) (old new : Seen) (files : List File) (fault : CollectFault) → ((t : Tree) → old.tree ≡ Some t → IsTree t) → IfSome old.tree (λ t. IsFilesOf t (package_folder id) files) → AreTooLong (package_folder id) files fault → PackageRefused id old new fault
+pub too_long : (id : Id) (old new : Seen) (files : List File) (fault : CollectFault) → ((t : Tree) → old.tree ≡ Some t → IsTree t) → IfSome old.tree (λ t. IsFilesOf t (package_folder id) files) → AreTooLong (package_folder id) files fault → CollectRefuses (λ r. NoFiles r id) old new fault
 too_long id old new files (Modules path) trees h k = absurd k
 too_long id old new files (TooLarge n) trees h k = absurd k
 too_long id old new files (LongPath n) trees h k = record {
@@ -60,8 +59,8 @@ too_long id old new files Entries trees h k = absurd k
 too_long id old new files Fault trees h k = absurd k
 too_long id old new files Memory trees h k = tt
 
-pub named : (id : Id) (old new : Seen) (q : Path) (fault : CollectFault) → ((t : Tree) → old.tree ≡ Some t → IsTree t) → FilesRefused (package_folder id) old new (FileModules q) → NamesModules (package_folder id) q fault → PackageRefused id old new fault
-named id old new q (Modules path) trees h k = (q, k, h)
+pub named : (id : Id) (old new : Seen) (q : Path) (fault : CollectFault) → ((t : Tree) → old.tree ≡ Some t → IsTree t) → FilesRefused (package_folder id) old new (FileModules q) → NamesModules (package_folder id) q fault → CollectRefuses (λ r. NoFiles r id) old new fault
+named id old new q (Modules path) trees h k = (q, k, h.0, h.1)
 named id old new q (TooLarge n) trees h k = absurd k
 named id old new q (LongPath n) trees h k = record {
   path = q;
@@ -74,39 +73,21 @@ named id old new q Entries trees h k = absurd k
 named id old new q Fault trees h k = absurd k
 named id old new q Memory trees h k = tt
 
--- with the tree of an earlier state
-seen_with : Seen → Option Tree → Seen
-seen_with s r = record { tree = r; touched = s.touched; faults = s.faults }
+pub refuses_from : (C : Option Tree → CollectFault → Type 0) (old mid new : Seen) (fault : CollectFault) → Keeps old mid → CollectRefuses C mid new fault → CollectRefuses C old new fault
+refuses_from C old mid new (Modules path) k h = subst (λ (r : Option Tree). C r (Modules path)) k.tree h
+refuses_from C old mid new (TooLarge n) k h = subst (λ (r : Option Tree). C r (TooLarge n)) k.tree h
+refuses_from C old mid new (LongPath n) k h = subst (λ (r : Option Tree). C r (LongPath n)) k.tree h
+refuses_from C old mid new Entries k h = subst (λ (r : Option Tree). C r Entries) k.tree h
+refuses_from C old mid new Fault k h = omega (arith, k.later, h)
+refuses_from C old mid new Memory k h = tt
 
-refused_from : (id : Id) (old mid new : Seen) (fault : CollectFault) → Keeps old mid → PackageRefused id mid new fault → PackageRefused id old new fault
-unfolding seen_with
-refused_from id old mid new (Modules path) k h = subst (λ (r : Option Tree). (q : Path) × (path ≡ q ++ package_folder id) × FilesRefused (package_folder id) (seen_with old r) new (FileModules q)) k.tree h
-refused_from id old mid new (TooLarge n) k h = subst (λ (r : Option Tree). (q : Path) × FilesRefused (package_folder id) (seen_with old r) new (FileTooLarge q n)) k.tree h
-refused_from id old mid new (LongPath n) k h = subst (λ (r : Option Tree). HasLongPath (package_folder id) r n) k.tree h
-refused_from id old mid new Entries k h = subst (λ (r : Option Tree). FilesRefused (package_folder id) (seen_with old r) new FileEntries) k.tree h
-refused_from id old mid new Fault k h = omega (arith, k.later, h)
-refused_from id old mid new Memory k h = tt
-
-collected : (found : List Found) (p : Found) (old new : Seen) (fault : CollectFault) → Contains found p → PackageRefused p.id old new fault → CollectRefused found old new fault
-collected found p old new (Modules path) c h = (p, c, h)
-collected found p old new (TooLarge n) c h = (p, c, h)
-collected found p old new (LongPath n) c h = (p, c, h)
-collected found p old new Entries c h = (p, c, h)
-collected found p old new Fault c h = h
-collected found p old new Memory c h = tt
-
--- the package at a place of the list is refused
-pub refused_at : (found : List Found) (k : ℕ) (p : Found) (old mid new : Seen) (fault : CollectFault) → k < length found → p ≡ get_or found k p → Keeps old mid → PackageRefused p.id mid new fault → CollectRefused found old new fault
-refused_at found k p old mid new fault within is kept h =
-    collected found p old new fault (subst (Contains found) (sym is) (Contains-get_or found k p within)) (refused_from p.id old mid new fault kept h)
-
-pub refused_in_order : (met sorted : List Found) (old new : Seen) (fault : CollectFault) → IsPermutation met sorted → CollectRefused sorted old new fault → CollectRefused met old new fault
-refused_in_order met sorted old new (Modules path) order h = (h.0, Contains-permutation sorted met h.0 (IsPermutation-sym met sorted order) h.1, h.2)
-refused_in_order met sorted old new (TooLarge n) order h = (h.0, Contains-permutation sorted met h.0 (IsPermutation-sym met sorted order) h.1, h.2)
-refused_in_order met sorted old new (LongPath n) order h = (h.0, Contains-permutation sorted met h.0 (IsPermutation-sym met sorted order) h.1, h.2)
-refused_in_order met sorted old new Entries order h = (h.0, Contains-permutation sorted met h.0 (IsPermutation-sym met sorted order) h.1, h.2)
-refused_in_order met sorted old new Fault order h = h
-refused_in_order met sorted old new Memory order h = tt
+pub refuses_by : (C D : Option Tree → CollectFault → Type 0) (old new : Seen) (fault : CollectFault) → (C old.tree fault → D old.tree fault) → CollectRefuses C old new fault → CollectRefuses D old new fault
+refuses_by C D old new (Modules path) f h = f h
+refuses_by C D old new (TooLarge n) f h = f h
+refuses_by C D old new (LongPath n) f h = f h
+refuses_by C D old new Entries f h = f h
+refuses_by C D old new Fault f h = h
+refuses_by C D old new Memory f h = tt
 
 -- the folder of a package that is reached stands
 pub folder_at : (r now : Option Tree) (found : List Found) (k : ℕ) (p : Found) → All (IsPackage r) found → k < length found → p ≡ get_or found k p → now ≡ r → HasFolder now p.id

@@ -4,3 +4,6 @@ pub mod Listing
 pub mod Causes
 pub mod Steps
 pub mod Folders
+pub mod Firsts
+pub mod Counts
+pub mod Passed

@@ -8,6 +8,8 @@ use Rattle.pn_fs.specs.Tree.{Tree}
 use Rattle.pn_registry.specs.Files.{File, IsFilesOf, IsClean}
 use Rattle.pn_manifest.specs.Exact.{Id}
 use Rattle.pn_registry.specs.Apart.{AreApart}
+use Rattle.pn_registry.specs.Below.{HasFew}
+use Rattle.pn_registry.specs.FilesFaults.{entry_limit}
 use Rattle.pn_registry.specs.Places.{package_folder}
 use Rattle.pn_choice.specs.declared.package.Package.{Package as Found}
 use Rattle.pn_layout.specs.declared.packages.Package.{Package}
@@ -30,13 +32,15 @@ placed_sound folder files paths same placed clean apart =
       short = λ f c. (All-contains (IsPlaced folder) paths f placed c).short;
     }
 
-pub below : (t : Tree) (folder : Path) (files : List File) (paths : List Path) → paths ≡ map path_of files → IsFilesOf t folder files → AreFilesBelow t folder paths
-below t folder files paths same h = record {
+pub below : (t : Tree) (folder : Path) (files : List File) (paths : List Path) → paths ≡ map path_of files → All IsClean files → IsFilesOf t folder files → HasFew t folder entry_limit → AreFilesBelow t folder paths
+below t folder files paths same clean h few = record {
   stand = λ f c.
       let x = from_image path_of files f (subst (λ (l : List Path). Contains l f) same c) in
       let s = h.stands f x.0.1 (subst (λ (p : Path). Contains files (p, x.0.1)) x.2 x.1) in
       (s.0, s.1);
   all = λ f is. subst (λ (l : List Path). Contains l f) (sym same) (in_image path_of files (f, length is.0) (h.all f is.0 is.1));
+  short = λ f bytes is. (All-contains IsClean files (f, length bytes) clean (h.all f bytes is)).short;
+  few = few;
 }
 
 pub made : (q : Found) (p : Package) (folder : Path) (files : List Path) → IsBare q p → p.folder ≡ folder → p.files.items ≡ files → AreSoundFiles folder files → IsMade p
@@ -47,9 +51,7 @@ made q p folder files bare at is h = record {
 }
 
 pub has_files : (t : Tree) (p : Package) (folder : Path) (files : List Path) → p.folder ≡ folder → p.files.items ≡ files → AreFilesBelow t folder files → HasFiles t p
-has_files t p folder files at is h =
-    let same : AreFilesBelow t p.folder p.files.items = subst (λ (a : Path). AreFilesBelow t a p.files.items) (sym at) (subst (AreFilesBelow t folder) (sym is) h) in
-    record { stand = same.stand; all = same.all }
+has_files t p folder files at is h = subst (λ (a : Path). AreFilesBelow t a p.files.items) (sym at) (subst (AreFilesBelow t folder) (sym is) h)
 
 pub outlined : (q : Found) (p : Package) (folder : Path) → IsBare q p → p.folder ≡ folder → folder ≡ package_folder q.id → outline p ≡ wanted q
 outlined q p folder bare at here = λ i. record { pair = (bare.name i, bare.version i); dependencies = bare.dependencies i; folder = (at ∙ here) i }
@@ -65,8 +67,8 @@ pub sound_if : {V E : Type 0} (items : V → List Path) (folder : Path) (files :
 sound_if items folder files (Ok v) clean apart same placed = placed_sound folder files (items v) same placed clean apart
 sound_if items folder files (Err e) clean apart same placed = tt
 
-pub below_if : {V E : Type 0} (items : V → List Path) (id : Id) (folder : Path) (files : List File) (r : Result V E) (o : Option Tree) → folder ≡ package_folder id
-    → IfSome o (λ t. IsFilesOf t (package_folder id) files) → IfOk r (λ v. items v ≡ map path_of files) → IfSome o (λ t. IfOk r (λ v. AreFilesBelow t folder (items v)))
-below_if items id folder files r None here h same = tt
-below_if items id folder files (Err e) (Some t) here h same = tt
-below_if items id folder files (Ok v) (Some t) here h same = below t folder files (items v) same (subst (λ (p : Path). IsFilesOf t p files) (sym here) h)
+pub below_if : {V E : Type 0} (items : V → List Path) (id : Id) (folder : Path) (files : List File) (r : Result V E) (o : Option Tree) → folder ≡ package_folder id → All IsClean files
+    → IfSome o (λ t. IsFilesOf t (package_folder id) files) → IfSome o (λ t. HasFew t (package_folder id) entry_limit) → IfOk r (λ v. items v ≡ map path_of files) → IfSome o (λ t. IfOk r (λ v. AreFilesBelow t folder (items v)))
+below_if items id folder files r None here clean h few same = tt
+below_if items id folder files (Err e) (Some t) here clean h few same = tt
+below_if items id folder files (Ok v) (Some t) here clean h few same = below t folder files (items v) same clean (subst (λ (p : Path). IsFilesOf t p files) (sym here) h) (subst (λ (p : Path). HasFew t p entry_limit) (sym here) few)

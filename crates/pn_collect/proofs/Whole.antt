@@ -1,5 +1,5 @@
 -- The packages of an install are sound and whole.
-use Rattle.std.proofs.Common.{◌≡◌, ◌≢◌, ◌<◌, ℕ, List, [], ◌∷◌, ◌++◌, Bool, true, false, not, Option, Some, None, Result, Ok, Err, IfOk, OnOk, map, length, get_or, refl, sym, ap, ◌∙◌, subst, arith, codes, IsPermutation, IsSorted, ⊎_elim}
+use Rattle.std.proofs.Common.{◌≡◌, ◌≢◌, ◌<◌, ℕ, List, [], ◌∷◌, ◌++◌, Bool, true, false, not, Option, Some, None, Result, Ok, Err, IfOk, IfSome, map, length, get_or, refl, sym, ap, ◌∙◌, subst, arith, codes, IsPermutation, IsSorted, ⊎_elim}
 use Rattle.std.specs.List.{All, Contains, IsDistinct}
 use Rattle.std.specs.Cmp.Lexicographic.{slice_cmp}
 use Rattle.std.specs.Ordering.{nat_cmp}
@@ -24,10 +24,12 @@ use Rattle.pn_choice.proofs.Once.{same_id-refl}
 use Rattle.pn_layout.specs.declared.packages.Package.{Package}
 use Rattle.pn_layout.specs.Sound.{called, IsSoundPair, AreSoundDependencies, IsSoundPackage, AreSound, IsAmong, AreWhole, FilesStand}
 use Rattle.pn_collect.specs.Outline.{Outline, outline, wanted, called_text, IsMade, HasFiles, HaveFiles}
+use Rattle.pn_collect.specs.Packages.{ArePackages}
+use Rattle.pn_collect.proofs.Causes.{if_all}
 use Rattle.pn_collect.proofs.Lists.{All-unmap, All-left, All-right, from_image, true_false, same_id-flips, firsts_all, distinct_firsts}
 
 -- These packages are those that are reached, in some order.
-pub record IsOf (r : Option Tree) (own : List Pair) (met : List Found) (v : List Package) : Type 0 where
+record IsOf (r : Option Tree) (own : List Pair) (met : List Found) (v : List Package) : Type 0 where
   pub sorted : List Found
   pub reached : IsReached r own met
   pub order : IsPermutation met sorted
@@ -65,7 +67,7 @@ rest_led ids (q ∷ ps) h = All-cons (λ (q : Found). All (λ d. Contains ids (p
     (All-unmap (λ e. Contains ids (target e)) (edge_of (id_text q.id)) q.dependencies (All-left (λ e. Contains ids (target e)) (package_edges q) (edges_in ps) h))
     (rest_led ids ps (All-right (λ e. Contains ids (target e)) (package_edges q) (edges_in ps) h))
 
-pub whole : {r : Option Tree} {own : List Pair} {met : List Found} {v : List Package} → IsOf r own met v → AreWhole own v
+whole : {r : Option Tree} {own : List Pair} {met : List Found} {v : List Package} → IsOf r own met v → AreWhole own v
 whole {r} {own} {met} {v} h =
     let ids = map id_of met in
     let all = led r own met h.reached in
@@ -82,7 +84,7 @@ whole {r} {own} {met} {v} h =
 sound_among : (v : List Package) (d : Pair) → All IsMade v → IsAmong v d → IsSoundPair d
 sound_among v d made a = subst IsSoundPair a.2 (All-contains IsMade v a.0 made a.1).pair
 
-pub direct : {r : Option Tree} {own : List Pair} {met : List Found} {v : List Package} → IsOf r own met v → IsRising own → AreSoundDependencies own
+direct : {r : Option Tree} {own : List Pair} {met : List Found} {v : List Package} → IsOf r own met v → IsRising own → AreSoundDependencies own
 direct {r} {own} {met} {v} h rising = record { rising = rising; each = λ d c. sound_among v d h.made ((whole h).project d c) }
 
 or_none : {A : Type 0} (a b : Option A) → or_else a b ≡ None → (a ≡ None) × (b ≡ None)
@@ -159,10 +161,10 @@ apart v p q h c m e = ⊎_elim
     (cases_lt m.0 c.0))
     (cases_lt c.0 m.0)
 
-pub sound : {r : Option Tree} {own : List Pair} {met : List Found} {v : List Package} → IsOf r own met v → AreSound v
+sound : {r : Option Tree} {own : List Pair} {met : List Found} {v : List Package} → IsOf r own met v → AreSound v
 sound {r} {own} {met} {v} h = record { each = sound_package h; apart = λ p q c m e. apart v p q (distinct h) c m e }
 
-pub exact : {r : Option Tree} {own : List Pair} {met : List Found} {v : List Package} → IsOf r own met v → IsPermutation (map wanted met) (map outline v)
+exact : {r : Option Tree} {own : List Pair} {met : List Found} {v : List Package} → IsOf r own met v → IsPermutation (map wanted met) (map outline v)
 exact {r} {own} {met} {v} h = subst (IsPermutation (map wanted met)) (sym h.same) (IsPermutation-map wanted met h.sorted h.order)
 
 out_text : Outline → List ℕ
@@ -178,25 +180,27 @@ unfolding out_text
 texts_wanted [] = refl
 texts_wanted (q ∷ qs) = ap (λ (l : List (List ℕ)). package_text q ∷ l) (texts_wanted qs)
 
-pub in_order : (sorted : List Found) (v : List Package) → map outline v ≡ map wanted sorted → IsSorted (slice_cmp nat_cmp) (map package_text sorted) → IsSorted (slice_cmp nat_cmp) (map called_text v)
+in_order : (sorted : List Found) (v : List Package) → map outline v ≡ map wanted sorted → IsSorted (slice_cmp nat_cmp) (map package_text sorted) → IsSorted (slice_cmp nat_cmp) (map called_text v)
 in_order sorted v same h = subst (IsSorted (slice_cmp nat_cmp)) (sym (texts_of v ∙ ap (map out_text) same ∙ texts_wanted sorted)) h
 
-pub have_files : (t : Tree) (v : List Package) → All (HasFiles t) v → HaveFiles t v
+have_files : (t : Tree) (v : List Package) → All (HasFiles t) v → HaveFiles t v
 have_files t v h p c = All-contains (HasFiles t) v p h c
 
-pub files_stand : (t : Tree) (v : List Package) → All (HasFiles t) v → FilesStand t v
+files_stand : (t : Tree) (v : List Package) → All (HasFiles t) v → FilesStand t v
 files_stand t v h p f c k = (All-contains (HasFiles t) v p h c).stand f k
 
--- what holds of the packages where they are told
-pub told_of : {V E : Type 0} (items : V → List Package) (res : Result V E) (r : Option Tree) (own : List Pair) (met sorted : List Found) → IsReached r own met → IsPermutation met sorted
-    → IfOk res (λ v. map outline (items v) ≡ map wanted sorted) → IfOk res (λ v. All IsMade (items v)) → IfOk res (λ v. IsOf r own met (items v))
-told_of items (Ok v) r own met sorted reached order same made = record { sorted = sorted; reached = reached; order = order; same = same; made = made }
-told_of items (Err e) r own met sorted reached order same made = tt
-
-pub if_told : {V E : Type 0} (P Q : V → Type 0) (res : Result V E) → ((v : V) → P v → Q v) → IfOk res P → IfOk res Q
-if_told P Q (Ok v) f h = f v h
-if_told P Q (Err e) f h = tt
-
-pub on_told : {V E : Type 0} (P : V → Type 0) (Q : Type 0) (res : Result V E) → ((v : V) → P v → Q) → IfOk res P → OnOk res Q
-on_told P Q (Ok v) f h = f v h
-on_told P Q (Err e) f h = tt
+pub packages_of : {V E : Type 0} (items : V → List Package) (res : Result V E) (r : Option Tree) (own : List Pair) (met sorted : List Found) → IsRising own → IsReached r own met → IsPermutation met sorted
+    → IsSorted (slice_cmp nat_cmp) (map package_text sorted) → IfOk res (λ v. map outline (items v) ≡ map wanted sorted) → IfOk res (λ v. All IsMade (items v)) → IfSome r (λ t. IfOk res (λ v. All (HasFiles t) (items v)))
+    → IfOk res (λ v. ArePackages r own met (items v))
+packages_of items (Ok v) r own met sorted rising reached order rises same made files =
+    let is : IsOf r own met (items v) = record { sorted = sorted; reached = reached; order = order; same = same; made = made } in
+    record {
+      sound = sound is;
+      direct = direct is rising;
+      whole = whole is;
+      exact = exact is;
+      sorted = in_order sorted (items v) same rises;
+      stand = if_all (λ t. All (HasFiles t) (items v)) (λ t. FilesStand t (items v)) r (λ t. files_stand t (items v)) files;
+      files = if_all (λ t. All (HasFiles t) (items v)) (λ t. HaveFiles t (items v)) r (λ t. have_files t (items v)) files;
+    }
+packages_of items (Err e) r own met sorted rising reached order rises same made files = tt

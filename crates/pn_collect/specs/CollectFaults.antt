@@ -1,16 +1,22 @@
 -- Why the packages of an install aren't told.
-use Rattle.std.specs.Prelude.{◌≡◌, ◌<◌, ◌++◌, ℕ, List, length, Option, None}
-use Rattle.std.specs.List.{Contains}
+use Rattle.std.specs.Prelude.{◌≡◌, ◌<◌, ◌++◌, ◌∷◌, ℕ, List, length, map, true, Option, None, IfSome, IsPermutation, IsSorted}
+use Rattle.std.specs.Cmp.Lexicographic.{slice_cmp}
+use Rattle.std.specs.List.{All, Contains}
+use Rattle.std.specs.Ordering.{nat_cmp}
 use Rattle.pn_text.specs.Path.{Path, path_text}
+use Rattle.pn_text.specs.Name.{holds_modules}
 use Rattle.pn_text.specs.Causes.{Rose}
 use Rattle.pn_fs.specs.Seen.{Seen}
 use Rattle.pn_fs.specs.Tree.{Tree}
 use Rattle.pn_manifest.specs.Exact.{Id}
-use Rattle.pn_registry.specs.Files.{File}
+use Rattle.pn_registry.specs.Below.{HasMany}
+use Rattle.pn_registry.specs.Files.{File, file_limit}
+use Rattle.pn_registry.specs.FilesFaults.{IsFirstModules, IsFirstLarge, entry_limit}
 use Rattle.pn_registry.specs.Places.{package_folder}
-use Rattle.pn_registry.specs.FilesFaults.{FilesRefused}
-use Rattle.pn_registry.specs.declared.contents.FilesFault.TheVariants.{Modules as FileModules, TooLarge as FileTooLarge, Entries as FileEntries}
+use Rattle.pn_choice.specs.Edges.{package_text}
 use Rattle.pn_choice.specs.declared.package.Package.{Package as Found}
+use Rattle.pn_layout.specs.declared.packages.Package.{Package}
+use Rattle.pn_collect.specs.Outline.{outline, wanted, IsMade, HasFiles}
 use Rattle.pn_collect.specs.declared.fault.CollectFault.{CollectFault}
 use Rattle.pn_collect.specs.declared.fault.CollectFault.TheVariants.{Modules, TooLarge, LongPath, Entries, Fault, Memory}
 
@@ -25,26 +31,37 @@ pub record HasLongPath (folder : Path) (tree : Option Tree) (n : ℕ) : Type 0 w
   pub long : IsLongBelow folder path n
   pub untold : tree ≡ None
 
--- why the package has no files
-abbrev pub PackageRefused : Id → Seen → Seen → CollectFault → Type 0
-PackageRefused id old new (Modules path) = (q : Path) × (path ≡ q ++ package_folder id) × FilesRefused (package_folder id) old new (FileModules q)
-PackageRefused id old new (TooLarge n) = (q : Path) × FilesRefused (package_folder id) old new (FileTooLarge q n)
-PackageRefused id old new (LongPath n) = HasLongPath (package_folder id) old.tree n
-PackageRefused id old new Entries = FilesRefused (package_folder id) old new FileEntries
-PackageRefused id old new Fault = Rose old.faults new.faults
-PackageRefused id old new Memory = Unit {0}
+-- why a package has no files
+abbrev pub NoFiles : Option Tree → Id → CollectFault → Type 0
+NoFiles r id (Modules path) = (q : Path) × (path ≡ q ++ package_folder id) × (holds_modules q ≡ true) × IfSome r (λ t. IsFirstModules t (package_folder id) q)
+NoFiles r id (TooLarge n) = (q : Path) × (file_limit < n) × IfSome r (λ t. IsFirstLarge t (package_folder id) q n)
+NoFiles r id (LongPath n) = HasLongPath (package_folder id) r n
+NoFiles r id Entries = IfSome r (λ t. HasMany t (package_folder id) entry_limit)
+NoFiles r id Fault = ⊥
+NoFiles r id Memory = ⊥
 
--- one of the packages is refused
-abbrev pub IsRefused : List Found → Seen → Seen → CollectFault → Type 0
-IsRefused found old new fault = (p : Found) × Contains found p × PackageRefused p.id old new fault
+-- A failed call, no memory, or the cause that the tree shows.
+abbrev pub CollectRefuses : (Option Tree → CollectFault → Type 0) → Seen → Seen → CollectFault → Type 0
+CollectRefuses Cause old new (Modules path) = Cause old.tree (Modules path)
+CollectRefuses Cause old new (TooLarge n) = Cause old.tree (TooLarge n)
+CollectRefuses Cause old new (LongPath n) = Cause old.tree (LongPath n)
+CollectRefuses Cause old new Entries = Cause old.tree Entries
+CollectRefuses Cause old new Fault = Rose old.faults new.faults
+CollectRefuses Cause old new Memory = Unit {0}
 
-abbrev pub CollectRefused : List Found → Seen → Seen → CollectFault → Type 0
-CollectRefused found old new (Modules path) = IsRefused found old new (Modules path)
-CollectRefused found old new (TooLarge n) = IsRefused found old new (TooLarge n)
-CollectRefused found old new (LongPath n) = IsRefused found old new (LongPath n)
-CollectRefused found old new Entries = IsRefused found old new Entries
-CollectRefused found old new Fault = Rose old.faults new.faults
-CollectRefused found old new Memory = Unit {0}
+-- A package that is reached passes: its files can be taken.
+abbrev pub HasPassed : Option Tree → Found → Type 0
+HasPassed r q = IfSome r (λ t. (p : Package) × (outline p ≡ wanted q) × IsMade p × HasFiles t p)
+
+-- The first package in byte order of ids that has no files; all before it have theirs.
+pub record IsFirstRefused (met : List Found) (r : Option Tree) (fault : CollectFault) : Type 0 where
+  pub before : List Found
+  pub at : Found
+  pub rest : List Found
+  pub all : IsPermutation met (before ++ at ∷ rest)
+  pub sorted : IsSorted (slice_cmp nat_cmp) (map package_text (before ++ at ∷ rest))
+  pub passed : All (HasPassed r) before
+  pub refused : NoFiles r at.id fault
 
 -- the path below the folder is too long, or there was no memory
 abbrev pub IsTooLong : Path → Path → CollectFault → Type 0

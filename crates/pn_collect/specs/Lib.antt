@@ -1,2 +1,4 @@
 pub mod Outline
 pub mod CollectFaults
+pub mod Packages
+pub mod Laws

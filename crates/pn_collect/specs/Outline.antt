@@ -1,11 +1,13 @@
 -- The packages of an install beside those that a project reaches.
-use Rattle.std.specs.Prelude.{◌≡◌, ◌≢◌, ◌≤◌, ℕ, List, [], ◌∷◌, ◌++◌, length}
+use Rattle.std.specs.Prelude.{◌≡◌, ◌≢◌, ◌≤◌, ℕ, List, [], ◌∷◌, ◌++◌, length, Some}
 use Rattle.std.specs.List.{Contains}
 use Rattle.pn_text.specs.Path.{Path, path_text}
-use Rattle.pn_fs.specs.Tree.{Tree, IsFile}
+use Rattle.pn_fs.specs.Tree.{Tree, IsFile, file}
 use Rattle.pn_node.specs.Plan.{IsSoundFile}
 use Rattle.pn_manifest.specs.Pairs.{Pair, IsRising}
-use Rattle.pn_registry.specs.Files.{File}
+use Rattle.pn_registry.specs.Below.{HasFew}
+use Rattle.pn_registry.specs.Files.{File, file_limit}
+use Rattle.pn_registry.specs.FilesFaults.{entry_limit}
 use Rattle.pn_registry.specs.Places.{package_folder}
 use Rattle.pn_choice.specs.declared.package.Package.{Package as Found}
 use Rattle.pn_layout.specs.declared.packages.Package.{Package}
@@ -28,10 +30,16 @@ wanted q = record { pair = (q.id.name, q.id.version); dependencies = q.dependenc
 abbrev pub called_text : Package → List ℕ
 called_text p = p.name ++ 64 ∷ p.version
 
+-- These are exactly the files below a folder. None is too long, and the folder has not too many entries.
+pub record AreFilesBelow (t : Tree) (folder : Path) (files : List Path) : Type 0 where
+  pub stand : (f : Path) → Contains files f → IsFile t (f ++ folder)
+  pub all : (f : Path) → IsFile t (f ++ folder) → Contains files f
+  pub short : (f : Path) (bytes : List ℕ) → t (f ++ folder) ≡ Some (file bytes) → length bytes ≤ file_limit
+  pub few : HasFew t folder entry_limit
+
 -- The files of a package are exactly those below its folder.
-pub record HasFiles (t : Tree) (p : Package) : Type 0 where
-  pub stand : (f : Path) → Contains p.files.items f → IsFile t (f ++ p.folder)
-  pub all : (f : Path) → IsFile t (f ++ p.folder) → Contains p.files.items f
+abbrev pub HasFiles : Tree → Package → Type 0
+HasFiles t p = AreFilesBelow t p.folder p.files.items
 
 abbrev pub HaveFiles : Tree → List Package → Type 0
 HaveFiles t packages = (p : Package) → Contains packages p → HasFiles t p
@@ -55,11 +63,6 @@ path_of f = f.0
 pub record IsPlaced (folder : Path) (f : Path) : Type 0 where
   pub below : f ≢ []
   pub short : length (path_text (f ++ folder)) ≤ 4096
-
--- These are exactly the files below a folder.
-pub record AreFilesBelow (t : Tree) (folder : Path) (files : List Path) : Type 0 where
-  pub stand : (f : Path) → Contains files f → IsFile t (f ++ folder)
-  pub all : (f : Path) → IsFile t (f ++ folder) → Contains files f
 
 -- The package has the name, version and dependencies of the one that is reached.
 pub record IsBare (q : Found) (p : Package) : Type 0 where

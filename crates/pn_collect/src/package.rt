@@ -1,15 +1,12 @@
 // One package of an install.
-ghost use Rattle.std.specs.Prelude.{◌≡◌, ◌≢◌, ◌≤◌, length, IfOk, IfErr, OnOk, IfSome, true};
+ghost use Rattle.std.specs.Prelude.{◌≡◌, ◌≤◌, length, IfOk, IfErr, IfSome, true};
 ghost use Rattle.pn_text.specs.Name.{is_name};
 ghost use Rattle.pn_fs.specs.Seen.{Keeps};
-ghost use Rattle.pn_fs.specs.Tree.{IsFile};
-ghost use Rattle.pn_manifest.specs.Exact.{is_exact};
 ghost use Rattle.pn_manifest.specs.Pairs.{IsRising};
 ghost use Rattle.pn_registry.specs.Places.{package_folder};
 ghost use Rattle.pn_choice.specs.Edges.{id_text};
 ghost use Rattle.pn_choice.specs.Found.{HasFolder};
-ghost use Rattle.pn_layout.specs.Sound.{called, IsSoundPair};
-ghost use Rattle.pn_collect.specs.CollectFaults.{PackageRefused};
+ghost use Rattle.pn_collect.specs.CollectFaults.{CollectRefuses, NoFiles};
 ghost use Rattle.pn_collect.specs.Outline.{outline, wanted, HasFiles, AreSoundFiles, IsMade, AreFilesBelow, IsBare};
 
 use crate::fault::CollectFault;
@@ -35,7 +32,7 @@ pub fn package<R: ReadFs>(
     ensures made { IfOk result IsMade }
     ensures files { IfSome (R.seen registry.old).tree (λ t. IfOk result (HasFiles t)) }
     ensures kept { Keeps (R.seen registry.old) (R.seen registry.new) }
-    ensures refused { IfErr result (PackageRefused found.now.id (R.seen registry.old) (R.seen registry.new)) }
+    ensures refused { IfErr result (CollectRefuses (λ r. NoFiles r found.now.id) (R.seen registry.old) (R.seen registry.new)) }
 {
     match package_folder(alloc, &found.id) {
         Ok(folder) => match listed(alloc, registry, &found.id, &folder) {
@@ -61,7 +58,7 @@ fn listed<R: ReadFs>(
     ensures sound { IfOk result (λ v. AreSoundFiles folder.now v.items) }
     ensures files { IfSome (R.seen registry.old).tree (λ t. IfOk result (λ v. AreFilesBelow t folder.now v.items)) }
     ensures kept { Keeps (R.seen registry.old) (R.seen registry.new) }
-    ensures refused { IfErr result (PackageRefused id.now (R.seen registry.old) (R.seen registry.new)) }
+    ensures refused { IfErr result (CollectRefuses (λ r. NoFiles r id.now) (R.seen registry.old) (R.seen registry.new)) }
 {
     match files(alloc, registry, id) {
         Ok(files) => paths(alloc, folder, &files),

@@ -1,15 +1,16 @@
 // The packages of an install.
-ghost use Rattle.std.specs.Prelude.{◌≡◌, ◌++◌, ◌∷◌, [], IfOk, IfErr, OnOk, IfSome, IsPermutation, IsSorted, map};
+ghost use Rattle.std.specs.Prelude.{◌≡◌, ◌++◌, ◌∷◌, [], IfOk, IfErr, OnOk, IfSome, IsSorted, map};
 ghost use Rattle.std.specs.Cmp.Lexicographic.{slice_cmp};
 ghost use Rattle.std.specs.List.{All};
 ghost use Rattle.std.specs.Ordering.{nat_cmp};
 ghost use Rattle.pn_fs.specs.Seen.{Keeps};
-ghost use Rattle.pn_choice.specs.Edges.{edges_by};
+ghost use Rattle.pn_choice.specs.Edges.{edges_by, package_text};
 ghost use Rattle.pn_choice.specs.Found.{IsPackage};
 ghost use Rattle.pn_choice.specs.Walked.{IsReached};
-ghost use Rattle.pn_layout.specs.Sound.{AreSound, AreSoundDependencies, AreWhole, FilesStand};
-ghost use Rattle.pn_collect.specs.CollectFaults.{CollectRefused};
-ghost use Rattle.pn_collect.specs.Outline.{outline, wanted, called_text, HasFiles, HaveFiles, IsMade};
+ghost use Rattle.pn_collect.specs.CollectFaults.{CollectRefuses, IsFirstRefused};
+ghost use Rattle.pn_collect.specs.Laws.{PassedLaw};
+ghost use Rattle.pn_collect.specs.Outline.{outline, wanted, HasFiles, IsMade};
+ghost use Rattle.pn_collect.specs.Packages.{ArePackages};
 
 use crate::fault::CollectFault;
 use crate::package::package;
@@ -21,7 +22,7 @@ use pn_text::Memory;
 use std::alloc::Global;
 
 /// Finds the packages of an install with their files, in byte order of the texts `name@version`. The registry's
-/// files are only listed, not read. A refusal is that of a package: see `CollectFault`.
+/// files are only listed, not read. The first package that has no files is the refusal: see `CollectFault`.
 pub fn collect<R: ReadFs>(
     alloc: Global,
     registry: &mut R,
@@ -29,15 +30,9 @@ pub fn collect<R: ReadFs>(
     reached: Reached,
 ) -> Result<Vec<Package>, CollectFault>
     requires { IsReached (R.seen registry.old).tree (edges_by project.now) reached }
-    ensures sound { IfOk result (λ v. AreSound v.items) }
-    ensures direct { OnOk result (AreSoundDependencies (edges_by project.now)) }
-    ensures whole { IfOk result (λ v. AreWhole (edges_by project.now) v.items) }
-    ensures exact { IfOk result (λ v. IsPermutation (map wanted reached) (map outline v.items)) }
-    ensures sorted { IfOk result (λ v. IsSorted (slice_cmp nat_cmp) (map called_text v.items)) }
-    ensures stand { IfSome (R.seen registry.old).tree (λ t. IfOk result (λ v. FilesStand t v.items)) }
-    ensures files { IfSome (R.seen registry.old).tree (λ t. IfOk result (λ v. HaveFiles t v.items)) }
+    ensures packages { IfOk result (λ v. ArePackages (R.seen registry.old).tree (edges_by project.now) reached v.items) }
     ensures kept { Keeps (R.seen registry.old) (R.seen registry.new) }
-    ensures refused { IfErr result (CollectRefused reached (R.seen registry.old) (R.seen registry.new)) }
+    ensures refused { IfErr result (CollectRefuses (IsFirstRefused reached) (R.seen registry.old) (R.seen registry.new)) }
 {
     let _ = project.dependencies.as_slice();
     match reached.by_id(alloc) {
@@ -46,18 +41,24 @@ pub fn collect<R: ReadFs>(
     }
 }
 
+/// Where packages have their files, none of them is refused.
+pub fn passed_law()
+    ensures { PassedLaw }
+{}
+
 // The packages in the order given.
 fn packages<R: ReadFs>(
     alloc: Global,
     registry: &mut R,
     found: &[Found],
 ) -> Result<Vec<Package>, CollectFault>
-    requires { All (IsPackage (R.seen registry.old).tree) found.now }
+    requires stand { All (IsPackage (R.seen registry.old).tree) found.now }
+    requires sorted { IsSorted (slice_cmp nat_cmp) (map package_text found.now) }
     ensures outlines { IfOk result (λ v. map outline v.items ≡ map wanted found.now) }
     ensures made { IfOk result (λ v. All IsMade v.items) }
     ensures files { IfSome (R.seen registry.old).tree (λ t. IfOk result (λ v. All (HasFiles t) v.items)) }
     ensures kept { Keeps (R.seen registry.old) (R.seen registry.new) }
-    ensures refused { IfErr result (CollectRefused found.now (R.seen registry.old) (R.seen registry.new)) }
+    ensures refused { IfErr result (CollectRefuses (IsFirstRefused found.now) (R.seen registry.old) (R.seen registry.new)) }
 {
     let mut all = Vec::new(alloc);
     for one in found {
