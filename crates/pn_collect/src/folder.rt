@@ -1,7 +1,6 @@
 // Where a package stands in the registry.
-ghost use Rattle.std.specs.Prelude.{◌≡◌, ◌≤◌, ◌+◌, ◌++◌, ◌∷◌, [], IfOk, IfErr, IsTrue, length, true};
-ghost use Rattle.pn_text.specs.Path.{path_text, text_below, is_path, is_part};
-ghost use Rattle.pn_text.specs.Name.{is_name, name_path};
+ghost use Rattle.std.specs.Prelude.{◌≡◌, ◌≤◌, ◌++◌, IfOk, IsTrue, length};
+ghost use Rattle.pn_text.specs.Path.{path_text, text_below, is_path};
 ghost use Rattle.pn_registry.specs.Places.{package_folder};
 ghost use Rattle.pn_choice.specs.Edges.{id_text};
 ghost use Rattle.pn_collect.specs.CollectFaults.{NamesModules};
@@ -17,43 +16,10 @@ pub fn package_folder(alloc: Global, id: &ExactId) -> Result<AbsPath, Memory>
     ensures { IfOk result (λ p. p ≡ package_folder id.now) }
 {
     let _ = id.name().as_str();
-    let name = id.name().as_path(alloc)?;
-    let root = root(alloc)?;
-    let folder = below(alloc, &root, &name)?;
-    child(alloc, &folder, id.version().as_str())
-}
-
-fn root(alloc: Global) -> Result<AbsPath, Memory>
-    ensures { IfOk result (λ p. p ≡ []) }
-{
-    match AbsPath::read(alloc, "/") {
-        Ok(root) => Ok(root),
+    match pn_registry::package_folder(alloc, id) {
+        Ok(Some(folder)) => Ok(folder),
+        Ok(None) => unreachable!(),
         Err(_) => Err(Memory),
-    }
-}
-
-// A path below a folder, short enough for one.
-fn below(alloc: Global, folder: &AbsPath, path: &RelPath) -> Result<AbsPath, Memory>
-    requires { length (path_text (path.now ++ folder.now)) ≤ 4096 }
-    ensures { IfOk result (λ p. p ≡ path.now ++ folder.now) }
-{
-    match folder.join(alloc, path) {
-        Ok(path) => Ok(path),
-        Err(PathFault::Memory) => Err(Memory),
-        Err(_) => unreachable!(),
-    }
-}
-
-// The path of a folder's entry, short enough for one.
-fn child(alloc: Global, folder: &AbsPath, part: &str) -> Result<AbsPath, Memory>
-    requires part { IsTrue (is_part part.now) }
-    requires short { length (path_text (part.now ∷ folder.now)) ≤ 4096 }
-    ensures { IfOk result (λ p. p ≡ part.now ∷ folder.now) }
-{
-    match folder.child(alloc, part) {
-        Ok(path) => Ok(path),
-        Err(PathFault::Memory) => Err(Memory),
-        Err(_) => unreachable!(),
     }
 }
 

@@ -15,6 +15,6 @@ mod tests;
 mod walk;
 
 pub use contents::{FilesFault, files};
-pub use folder::stands;
+pub use folder::{package_folder, stands};
 pub use list::{Files, PackageFile};
 pub use package::{PackageFault, manifest};

@@ -1,15 +1,13 @@
-use Rattle.std.proofs.Common.{◌≡◌, ◌∙◌, ℕ, List, ap, subst, true}
-use Rattle.pn_text.specs.Name.{is_name, name_path}
-use Rattle.pn_collect.proofs.Folders.{name_fits, folder_fits}
+use Rattle.std.proofs.Common.{◌≡◌, ◌<◌, ℕ, List, length, true, subst, arith, ◌∙◌}
+use Rattle.pn_text.specs.Path.{path_text}
+use Rattle.pn_text.specs.Name.{is_name}
+use Rattle.pn_registry.specs.Places.{package_folder, IsPathOrLong}
+use Rattle.pn_collect.proofs.Folders.{folder_fits}
 use Rattle.pn_collect.proofs.folder.package_folder.Goals as goal
 
-pub below-requires : goal.below-requires
-below-requires c =
-    name_fits c.args.id.now c.in_ok-name.name c.in_ok-root.root (c.in_ok-name.ensures ∙ ap name_path c.name-2.ensures) c.in_ok-root.ensures
-    (subst (λ (t : List ℕ). is_name t ≡ true) (c.as_str.ensures.text ∙ c.name.ensures) c.as_str.ensures.name) c.requires
-
-pub child-requires-clause-short : goal.child-requires-clause-short
-child-requires-clause-short c =
-    folder_fits c.args.id.now c.in_ok-name.name c.in_ok-root.root c.in_ok-folder.folder c.as_str-2.result.now (c.in_ok-name.ensures ∙ ap name_path c.name-2.ensures) c.in_ok-root.ensures c.in_ok-folder.ensures
-    (c.as_str-2.ensures ∙ c.version.ensures.text)
-    (subst (λ (t : List ℕ). is_name t ≡ true) (c.as_str.ensures.text ∙ c.name.ensures) c.as_str.ensures.name) c.requires
+pub unreachable-requires : goal.unreachable-requires
+unreachable-requires c =
+    let id = c.args.id.now in
+    let long : 4096 < length (path_text (package_folder id)) = subst (IsPathOrLong (package_folder id)) c.in-Ok-None.field-0-is c.in-Ok-None.ensures in
+    let named : is_name id.name ≡ true = subst (λ (t : List ℕ). is_name t ≡ true) (c.as_str.ensures.text ∙ c.name.ensures) c.as_str.ensures.name in
+    omega (arith, long, folder_fits id named c.requires)
