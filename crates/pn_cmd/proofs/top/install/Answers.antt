@@ -33,4 +33,4 @@ returns g c =
     let w = c.in_default.ensures in
     reported_by c.tell_report.result (inputs (map string_bytes c.args.words.now) c.args.place.now) (sources (g.P.ReadFs.seen c.args.project.now) (g.R.ReadFs.seen c.args.registry.now)) (sources (g.P.ReadFs.seen c.check.new.project) (g.R.ReadFs.seen c.check.new.registry))
     (sources (g.P.ReadFs.seen c.write.new.project) (g.R.ReadFs.seen c.write.new.registry)) (g.O.Sink.seen c.args.out.now) (g.O.Sink.seen c.tell_report.new.out) c.as_str.result.now c.in-Ok.ready
-    (g.met.P.ReadFs.well_formed c.args.project.now) c.in-Ok.ensures.kept c.in-Ok.ensures.ready w.registry w.ok (c.as_str.ensures ∙ c.in-Ok-report.ensures ∙ ap report_of c.len.ensures) c.tell_report.ensures
+    (g.met.P.ReadFs.well_formed c.args.project.now) c.in-Ok.ensures.kept c.in-Ok.ensures.ready w.registry w.ok (c.as_str.ensures.value ∙ c.in-Ok-report.ensures ∙ ap report_of (c.len.ensures ∙ c.in-Ok.ready.packages.ok.0)) c.tell_report.ensures
