@@ -14,6 +14,7 @@ const inModules = (path) => path === 'node_modules' || path.startsWith('node_mod
 
 // The folder and the folders below it, those in its `node_modules` aside.
 const foldersAt = (folder) => {
+  if (!existsSync(folder)) return [];
   const below = [...entriesOf(folder)].filter(([path, entry]) => entry === 'folder' && !inModules(path));
   return [folder, ...below.map(([path]) => join(folder, path))];
 };

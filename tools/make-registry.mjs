@@ -7,9 +7,13 @@ import { dirname, join } from 'node:path';
 import { isExact, isName, readManifest } from './packages.mjs';
 import { differences, entriesOf } from './trees.mjs';
 
+const usage = `usage: make-registry.mjs FROM TO
+  FROM  a node_modules folder
+  TO    the registry folder, made where it is missing`;
+
 const [from, to, ...others] = process.argv.slice(2);
 if (to === undefined || others.length > 0) {
-  console.error('usage: make-registry.mjs FROM TO\n  FROM  a node_modules folder\n  TO    the registry folder, made where it is missing');
+  console.error(usage);
   process.exit(2);
 }
 if (!lstatSync(from, { throwIfNoEntry: false })?.isDirectory()) {
@@ -23,12 +27,12 @@ const leaveOut = (path, why) => {
   console.error(`make-registry: left out: ${path}: ${why}`);
 };
 
+const shown = (folder) => readdirSync(folder).filter((name) => !name.startsWith('.')).sort();
+
+const inScope = (modules, scope) => shown(join(modules, scope)).map((name) => `${scope}/${name}`);
+
 // The names of the packages in a node_modules folder, scoped ones included.
-const namesIn = (modules) =>
-  readdirSync(modules)
-    .sort()
-    .filter((name) => !name.startsWith('.'))
-    .flatMap((name) => (name.startsWith('@') ? readdirSync(join(modules, name)).sort().map((part) => `${name}/${part}`) : [name]));
+const namesIn = (modules) => shown(modules).flatMap((name) => (name.startsWith('@') ? inScope(modules, name) : [name]));
 
 const isOwnModules = (path) => path === 'node_modules' || path.startsWith('node_modules/');
 

@@ -34,8 +34,8 @@ export const ask = (file, words, questions, env) => {
   const ended = run(file, words, { input, env });
   if (ended.status !== 0) throw new Error(`${file} ended with ${ended.status}: ${ended.err.trim()}`);
   const answers = ended.out.split('\n').slice(0, -1);
-  if (answers.length !== questions.length) throw new Error(`${file} gave ${answers.length} answers to ${questions.length} questions`);
-  return answers;
+  if (answers.length === questions.length) return answers;
+  throw new Error(`${file} gave ${answers.length} answers to ${questions.length} questions`);
 };
 
 // Ends the check: status 1 where there are differences, each told in a line.

@@ -1,12 +1,16 @@
 // Folders of files, for the checks: written, listed and compared.
-import { lstatSync, mkdirSync, mkdtempSync, readFileSync, readdirSync, readlinkSync, realpathSync, rmSync, symlinkSync, writeFileSync } from 'node:fs';
+import {
+  lstatSync, mkdirSync, mkdtempSync, readFileSync, readdirSync, readlinkSync, realpathSync, rmSync, symlinkSync, writeFileSync,
+} from 'node:fs';
 import { tmpdir } from 'node:os';
 import { dirname, join } from 'node:path';
 
 const stands = (path) => lstatSync(path, { throwIfNoEntry: false }) !== undefined;
 
+const isRoot = (folder) => dirname(folder) === folder;
+
 // Whether a `node_modules` stands in the folder or above it.
-const hasModules = (folder) => stands(join(folder, 'node_modules')) || (dirname(folder) !== folder && hasModules(dirname(folder)));
+const hasModules = (folder) => stands(join(folder, 'node_modules')) || (!isRoot(folder) && hasModules(dirname(folder)));
 
 // A folder for temporary files from which Node's lookup finds nothing of the machine's own.
 const place = () => {
@@ -15,12 +19,15 @@ const place = () => {
   return realpathSync(found);
 };
 
+const made = [];
+
 // A new temporary folder, by its real path. It is removed when the process ends.
 export const temporary = () => {
   const folder = mkdtempSync(join(place(), 'pnpm-rs-'));
-  process.on('exit', () => rmSync(folder, { recursive: true, force: true }));
+  made.push(folder);
   return folder;
 };
+process.on('exit', () => made.forEach((folder) => rmSync(folder, { recursive: true, force: true })));
 for (const signal of ['SIGINT', 'SIGTERM']) process.on(signal, () => process.exit(1));
 
 // Writes entries below a folder: `null` is a folder, `{ link }` a link, and a text or a buffer a file's content.
