@@ -127,7 +127,7 @@ const limits = [
     registry: packA(),
     large: ['a/1.0.0/large', 268435457],
   }),
-  row('a path in the project past 4,096 bytes', 11, 'limit: path 4110', { project: {}, length: 4090 }),
+  row('a path in the project past 4,096 bytes', 11, 'limit: path 4110', { project: {}, length: 4090, env: '.' }),
   row('a planned path past 4,096 bytes', 11, 'limit: path 4097', {
     project: needsA,
     registry: { ...packA(), [`a/1.0.0/${longName}`]: '' },
@@ -138,6 +138,7 @@ const limits = [
 const faults = [
   row('a pipe for a manifest', 20, 'project fault', { project: {}, pipe: 'package.json' }),
   row('a pipe in a package', 22, 'registry fault', { project: needsA, registry: packA(), pipe: 'pnpm-rs-registry/a/1.0.0/pipe' }),
+  row("a path of the registry's folder past 4,096 bytes", 22, 'registry fault', { project: {}, length: 4090 }),
   row('an output that is full', 23, 'output fault', { project: needsA, registry: packA(), output: '/dev/full' }),
 ];
 
