@@ -93,7 +93,7 @@ const versions = [
   noVersion('two missing packages', '. needs a@1.0.0', needs({ b: '1.0.0', a: '1.0.0' }), {}),
 ];
 
-const reserved = (path) => notYet(`a package's file ${path}`, `/${path}`, needsA, { ...packA(), [path]: '' });
+const reserved = (path) => notYet(`a package's file ${path}`, `registry:/${path}`, needsA, { ...packA(), [path]: '' });
 
 const unbuilt = [
   stands('file', 'pnpm-workspace.yaml', 'packages: []\n'),
