@@ -11,10 +11,17 @@ const requireIn = (folder) => {
   return requires.get(folder);
 };
 
+const folders = new Map();
+
 // The real path, where a folder stands.
 const realFolder = (path) => {
+  if (!folders.has(path)) folders.set(path, lookAt(path));
+  return folders.get(path);
+};
+
+const lookAt = (path) => {
   try {
-    return statSync(path).isDirectory() ? realpathSync(path) : undefined;
+    return statSync(path, { throwIfNoEntry: false })?.isDirectory() ? realpathSync(path) : undefined;
   } catch {
     return undefined;
   }

@@ -1,9 +1,10 @@
 // Installs projects, compares the trees with what the manifests say, and compares what Node's own lookup finds in them
-// with what each package declared: the demo, and a project of the packages that npm carries.
+// with what each package declared: the demo, generated projects, and a project of the packages that npm carries.
 // Usage: node tools/check-with-node.mjs [PROGRAM]
 import { execFileSync } from 'node:child_process';
 import { cpSync, existsSync, readFileSync, symlinkSync } from 'node:fs';
 import { basename, join } from 'node:path';
+import { generate } from './generated.mjs';
 import { compareLoads, compareLookup, compareOdd, hasFindCheck, questionsOf } from './lookups.mjs';
 import { installedTree, isExact, isName, reached, readManifest } from './packages.mjs';
 import { build, finish, program, run, top } from './program.mjs';
@@ -21,6 +22,8 @@ const install = (project, registry, env) => {
   if (err !== '') problems.push(`standard error has ${JSON.stringify(err)}`);
   return { packages, problems };
 };
+
+const tell = (what, packages, questions) => console.log(`${what}: ${packages.length} packages, ${questions.length} lookups`);
 
 // The names of a registry's packages.
 const namesIn = (registry) => {
@@ -54,9 +57,29 @@ const checkDemo = () => {
   copyDemo(project);
   const registry = join(project, 'pnpm-rs-registry');
   const { packages, problems } = install(project, registry, {});
-  console.log(`the demo: ${packages.length} packages`);
   const questions = questionsOf(project, packages, [...namesIn(registry), ...strange]);
+  tell('the demo', packages, questions);
   return [...problems, ...compareLookup(questions), ...compareLoads(questions), ...compareOutput(project)];
+};
+
+const GENERATED = 20;
+
+// Generated projects, whose lookups are asked together.
+const checkGenerated = () => {
+  const seeds = Array.from({ length: GENERATED }, (_, i) => i + 1);
+  const all = seeds.map(checkSeed);
+  const questions = all.flatMap((one) => one.questions);
+  tell(`${GENERATED} generated projects`, all.flatMap(({ packages }) => packages), questions);
+  return [...all.flatMap(({ problems }) => problems), ...compareLookup(questions)];
+};
+
+const checkSeed = (seed) => {
+  const folder = temporary();
+  const [project, registry] = [join(folder, 'project'), join(folder, 'registry')];
+  const names = generate(seed, project, registry);
+  const { packages, problems } = install(project, registry, { PNPM_RS_REGISTRY: registry });
+  const questions = questionsOf(project, packages, [...names, ...strange]);
+  return { packages, questions, problems: problems.map((line) => `generated project ${seed}: ${line}`) };
 };
 
 const isFilled = (value) => value !== undefined && value !== null && Object.keys(Object(value)).length > 0;
@@ -127,10 +150,10 @@ const checkCarried = () => {
   const plain = plainPackages(registry);
   makeProject(project, registry, plain);
   const { packages, problems } = install(project, registry, { PNPM_RS_REGISTRY: registry });
-  console.log(`npm's packages: ${packages.length} packages`);
   if (made.status !== 0) problems.push(`make-registry ended with ${made.status}: ${made.err.trim()}`);
-  const names = plain.map(([name]) => name);
-  return [...problems, ...compareLookup(questionsOf(project, packages, [...names, ...strange]))];
+  const questions = questionsOf(project, packages, [...plain.map(([name]) => name), ...strange]);
+  tell("npm's packages", packages, questions);
+  return [...problems, ...compareLookup(questions)];
 };
 
 const checkOdd = () => {
@@ -141,7 +164,7 @@ const checkOdd = () => {
 
 try {
   build();
-  finish('check-with-node', [...checkDemo(), ...checkCarried(), ...checkOdd()]);
+  finish('check-with-node', [...checkDemo(), ...checkGenerated(), ...checkCarried(), ...checkOdd()]);
 } catch (e) {
   console.log(`check-with-node: ${e.message}`);
   process.exitCode = 1;

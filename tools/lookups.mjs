@@ -50,8 +50,6 @@ export const compareLookup = (questions) => {
   const wanted = questions.map(({ means }) => means);
   const problems = compareAnswers('node', questions, byNode(questions), wanted);
   if (hasFindCheck()) problems.push(...compareAnswers('find_check', questions, ask(findCheck, [], pairs(questions)), wanted));
-  const folders = new Set(questions.map(({ folder }) => folder));
-  console.log(`  ${questions.length} lookups from ${folders.size} folders`);
   return problems;
 };
 
