@@ -82,7 +82,7 @@ const checkSeed = (seed) => {
   return { packages, questions, problems: problems.map((line) => `generated project ${seed}: ${line}`) };
 };
 
-const isFilled = (value) => value !== undefined && value !== null && Object.keys(Object(value)).length > 0;
+const isEmpty = (value) => (value ?? null) === null || (typeof value === 'object' && Object.keys(value).length === 0);
 
 const needing = ['dependencies', 'optionalDependencies', 'peerDependencies', 'peerDependenciesMeta', 'pnpm'];
 
@@ -93,7 +93,7 @@ const isPlain = (folder) => {
   const manifest = readManifest(folder);
   const id = `${manifest.name}@${manifest.version}`;
   return isName(manifest.name) && isExact(manifest.version) && id.length <= 120 &&
-    !needing.some((field) => isFilled(manifest[field])) && !hasModules(folder);
+    needing.every((field) => isEmpty(manifest[field])) && !hasModules(folder);
 };
 
 const plainVersions = (folder) => {
