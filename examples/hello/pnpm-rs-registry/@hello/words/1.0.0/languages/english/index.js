@@ -1,0 +1,3 @@
+'use strict';
+
+module.exports = { hello: 'hello', goodbye: 'goodbye', by: 'by' };

@@ -1,0 +1,3 @@
+'use strict';
+
+module.exports = { hello: 'grüß dich', goodbye: 'auf Wiedersehen', by: 'von' };

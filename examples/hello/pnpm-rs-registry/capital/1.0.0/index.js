@@ -1,0 +1,3 @@
+'use strict';
+
+module.exports = (text) => text.charAt(0).toUpperCase() + text.slice(1);

@@ -1,0 +1,3 @@
+'use strict';
+
+module.exports = (n) => n === 0 || require('is-odd')(n - 1);

@@ -1,0 +1,88 @@
+// Runs `pnpm-rs install` on small projects, most of which are refused, and compares the status, what is printed, and
+// what stands in the project's folder.
+// Usage: node tools/check-refusals.mjs [PROGRAM]
+import { spawnSync } from 'node:child_process';
+import { closeSync, openSync, truncateSync } from 'node:fs';
+import { join } from 'node:path';
+import { installedTree, reached } from './packages.mjs';
+import { build, finish, program, run } from './program.mjs';
+import { cases } from './refusals.mjs';
+import { differences, entriesOf, put, temporary } from './trees.mjs';
+
+const ONE_PART = 201;
+
+// A path below a folder that has so many bytes.
+const longPath = (folder, length) => {
+  let path = folder;
+  while (length - path.length > 2 * ONE_PART) path += `/${'d'.repeat(ONE_PART - 1)}`;
+  const half = Math.floor((length - path.length) / 2);
+  path += `/${'d'.repeat(half - 1)}`;
+  return `${path}/${'d'.repeat(length - path.length - 1)}`;
+};
+
+// A file of so many bytes, none of which takes room.
+const putLarge = (path, length) => {
+  closeSync(openSync(path, 'w'));
+  truncateSync(path, length);
+};
+
+// Makes the project and the registry, which stands apart where it has a file that is too large to be compared.
+const make = ({ project: own, registry: packages, at = 'pnpm-rs-registry', env, large, pipe, length }) => {
+  const folder = temporary();
+  const project = length === undefined ? join(folder, 'app') : longPath(folder, length);
+  const registry = large === undefined ? join(project, at) : join(folder, 'registry');
+  put(project, own);
+  if (Object.keys(packages).length > 0) put(registry, packages);
+  if (large !== undefined) putLarge(join(registry, large[0]), large[1]);
+  if (pipe !== undefined) spawnSync('mkfifo', [join(project, pipe)]);
+  const named = large === undefined ? env?.replace('PROJECT', project) : registry;
+  return { project, registry, env: named === undefined ? {} : { PNPM_RS_REGISTRY: named } };
+};
+
+const report = (packages) => `projects 1\npackages ${packages.length}\ninstances ${packages.length}\n`;
+
+// What is to be printed, and what is to stand: the installed project where the writing comes to its end.
+const expected = ({ status, text }, { project, registry }) => {
+  const before = entriesOf(project);
+  const err = text === '' ? '' : `pnpm-rs: ${text.replace('PROJECT', project)}\n`;
+  if (status !== 0 && status !== 23) return { out: '', err, tree: before };
+  const packages = reached(project, registry);
+  const out = status === 0 ? report(packages) : '';
+  return { out, err, tree: new Map([...before, ...installedTree(project, packages)]) };
+};
+
+const told = JSON.stringify;
+
+const compareText = (what, found, wanted) => (found === wanted ? [] : [`${what} ${told(found)}, not ${told(wanted)}`]);
+
+const runIn = ({ words, output }, { project, env }) => {
+  if (output === undefined) return run(program(), words, { cwd: project, env });
+  const stdout = openSync(output, 'w');
+  const ended = run(program(), words, { cwd: project, env, stdout });
+  closeSync(stdout);
+  return ended;
+};
+
+const check = (one) => {
+  const made = make(one);
+  const { out, err, tree } = expected(one, made);
+  const ended = runIn(one, made);
+  const problems = [
+    ...compareText('status', ended.status, one.status),
+    ...compareText('standard error', ended.err, err),
+    ...compareText('standard output', ended.out, out),
+    ...differences(tree, entriesOf(made.project)),
+  ];
+  return problems.map((line) => `${one.title}: ${line}`);
+};
+
+try {
+  build();
+  const problems = cases.flatMap(check);
+  const installed = cases.filter(({ status }) => status === 0);
+  console.log(`check-refusals: ${cases.length} projects, ${installed.length} of which are installed`);
+  finish('check-refusals', problems);
+} catch (e) {
+  console.log(`check-refusals: ${e.message}`);
+  process.exitCode = 1;
+}

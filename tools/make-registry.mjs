@@ -1,0 +1,104 @@
+#!/usr/bin/env node
+// Makes a registry of the packages in a node_modules folder: each goes to `TO/<name>/<version>`, without its own
+// node_modules, whose packages are taken too. Only regular files are copied. A version that stands already is left as it
+// is. Ends with 1 where a package was left out.
+import { copyFileSync, existsSync, lstatSync, mkdirSync, readdirSync, renameSync, rmSync } from 'node:fs';
+import { dirname, join } from 'node:path';
+import { isExact, isName, readManifest } from './packages.mjs';
+import { differences, entriesOf } from './trees.mjs';
+
+const usage = `usage: make-registry.mjs FROM TO
+  FROM  a node_modules folder
+  TO    the registry folder, made where it is missing`;
+
+const [from, to, ...others] = process.argv.slice(2);
+if (to === undefined || others.length > 0) {
+  console.error(usage);
+  process.exit(2);
+}
+if (!lstatSync(from, { throwIfNoEntry: false })?.isDirectory()) {
+  console.error(`make-registry: ${from} is no folder`);
+  process.exit(2);
+}
+
+const counts = { made: 0, there: 0, left: 0 };
+const leaveOut = (path, why) => {
+  counts.left += 1;
+  console.error(`make-registry: left out: ${path}: ${why}`);
+};
+
+const shown = (folder) => readdirSync(folder).filter((name) => !name.startsWith('.')).sort();
+
+const inScope = (modules, scope) => shown(join(modules, scope)).map((name) => `${scope}/${name}`);
+
+// The names of the packages in a node_modules folder, scoped ones included.
+const namesIn = (modules) => shown(modules).flatMap((name) => (name.startsWith('@') ? inScope(modules, name) : [name]));
+
+const isOwnModules = (path) => path === 'node_modules' || path.startsWith('node_modules/');
+
+// The package's regular files.
+const filesOf = (folder) => {
+  return new Map([...entriesOf(folder)].filter(([path, entry]) => !isOwnModules(path) && Buffer.isBuffer(entry)));
+};
+
+const copyFiles = (folder, files, target) => {
+  const making = join(to, `.making-${process.pid}`);
+  rmSync(making, { recursive: true, force: true });
+  for (const path of files.keys()) {
+    mkdirSync(dirname(join(making, path)), { recursive: true });
+    copyFileSync(join(folder, path), join(making, path));
+  }
+  mkdirSync(dirname(target), { recursive: true });
+  renameSync(making, target);
+};
+
+const makeVersion = (folder, { name, version }) => {
+  const target = join(to, name, version);
+  const files = filesOf(folder);
+  if (!existsSync(target)) {
+    copyFiles(folder, files, target);
+    counts.made += 1;
+    return;
+  }
+  const [first] = differences(filesOf(target), files);
+  if (first === undefined) counts.there += 1;
+  else leaveOut(folder, `${target} stands with other bytes (${first})`);
+};
+
+// The manifest of a package that a registry can hold, or why there is none.
+const manifestOf = (folder) => {
+  if (!lstatSync(folder).isDirectory()) return { why: 'no folder of its own' };
+  try {
+    const manifest = readManifest(folder);
+    if (!isName(manifest.name)) return { why: `no package name: ${manifest.name}` };
+    if (!isExact(manifest.version)) return { why: `no version without build metadata: ${manifest.version}` };
+    return { manifest };
+  } catch (e) {
+    return { why: `no manifest: ${e.message}` };
+  }
+};
+
+const makePackage = (folder) => {
+  const { manifest, why } = manifestOf(folder);
+  if (why !== undefined) {
+    leaveOut(folder, why);
+    return;
+  }
+  makeVersion(folder, manifest);
+  const nested = join(folder, 'node_modules');
+  if (existsSync(nested)) makeAll(nested);
+};
+
+const makeAll = (modules) => {
+  for (const name of namesIn(modules)) makePackage(join(modules, name));
+};
+
+try {
+  mkdirSync(to, { recursive: true });
+  makeAll(from);
+} catch (e) {
+  console.error(`make-registry: ${e.message}`);
+  process.exit(1);
+}
+console.log(`make-registry: ${counts.made} versions made, ${counts.there} there already, ${counts.left} left out`);
+process.exitCode = counts.left === 0 ? 0 : 1;
