@@ -7,6 +7,11 @@
 //! project's folder finds by the names of its dependencies (`specs/Finds`). No other crate says what a lookup finds.
 #![tactic(auto)]
 
+mod entry;
+mod name;
+mod step;
+mod walk;
+
 ghost use Rattle.pn_node.specs.Finds.{HomesLaw, LookupLaw, RealLaw, TopLaw};
 
 /// From each folder of an installed package, the package's own name finds it, a dependency's name finds what its link
