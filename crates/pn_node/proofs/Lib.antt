@@ -8,3 +8,4 @@ pub mod Builds
 pub mod Laws
 pub mod StepTexts
 pub mod LegLemmas
+pub mod Ups

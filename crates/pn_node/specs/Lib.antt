@@ -5,3 +5,4 @@ pub mod Plan
 pub mod Finds
 pub mod Steps
 pub mod Legs
+pub mod Lookups

@@ -1,9 +1,9 @@
 // The entries of a folder.
-ghost use Rattle.std.specs.Prelude.{◌≡◌, [], IfOk, IfSome, IsTrue};
-ghost use Rattle.std.specs.Option.{MatchOption};
+ghost use Rattle.std.specs.Prelude.{◌≡◌, ◌↔◌, [], IfOk, IfSome, IsTrue};
 ghost use Rattle.pn_text.specs.Path.{is_part};
 ghost use Rattle.pn_text.specs.Relative.{parent_of};
 ghost use Rattle.pn_text.specs.Causes.{HasCause};
+ghost use Rattle.pn_fs.specs.Tree.{folder};
 ghost use Rattle.pn_fs.specs.Seen.{Keeps};
 ghost use Rattle.pn_node.specs.Legs.{IsMet};
 
@@ -42,6 +42,18 @@ pub fn meet<R: ReadFs>(
         Kind::Folder => Ok(Met::Folder(path)),
         Kind::File(_) => Ok(Met::File(path)),
         Kind::Link => Ok(Met::Link(fs.read_link(&path)?)),
+    }
+}
+
+/// Whether a folder stands at a path.
+pub fn is_folder<R: ReadFs>(fs: &mut R, path: &AbsPath) -> Result<bool, DevFault>
+    ensures folder { IfSome (R.seen fs.old).tree (λ t. IfOk result (λ is. IsTrue is ↔ (t path.now ≡ Some folder))) }
+    ensures kept { Keeps (R.seen fs.old) (R.seen fs.new) }
+    ensures cause { HasCause (R.seen fs.old).faults (R.seen fs.new).faults result }
+{
+    match fs.kind(path)? {
+        Kind::Folder => Ok(true),
+        _ => Ok(false),
     }
 }
 

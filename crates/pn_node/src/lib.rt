@@ -8,9 +8,14 @@
 #![tactic(auto)]
 
 mod entry;
+mod lookup;
 mod name;
+mod real_path;
 mod step;
 mod walk;
+
+pub use lookup::find;
+pub use real_path::real;
 
 ghost use Rattle.pn_node.specs.Finds.{HomesLaw, LookupLaw, RealLaw, TopLaw};
 

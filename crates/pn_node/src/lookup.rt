@@ -1,17 +1,18 @@
 // Node's lookup of packages.
-ghost use Rattle.std.specs.Prelude.{◌≡◌, IfOk, IfSome};
+ghost use Rattle.std.specs.Prelude.{◌≡◌, [], ◌∷◌, OnOk, IfOk, IfSome};
 ghost use Rattle.pn_text.specs.Causes.{HasCause};
-ghost use Rattle.pn_text.specs.Name.{name_path};
+ghost use Rattle.pn_text.specs.Name.{name_path, modules};
 ghost use Rattle.pn_fs.specs.Seen.{Keeps};
-ghost use Rattle.pn_node.specs.Find.{find};
+ghost use Rattle.pn_node.specs.Find.{find, into, path_steps};
+ghost use Rattle.pn_node.specs.Steps.{steps_of};
 ghost use Rattle.pn_node.specs.Finds.{ends_in_modules};
-ghost use Rattle.pn_node.specs.Lookups.{IsFoundNear, IsFoundIn, LeadsIn, IsFolderOr};
+ghost use Rattle.pn_node.specs.Lookups.{IsFoundNear, LeadsIn, IsFolderOr};
 
-use crate::entry::root;
+use crate::entry::{is_folder, root};
 use crate::real_path::LINKS;
 use crate::walk::Walk;
-use pn_fs::{Kind, ReadFs};
-use pn_text::{AbsPath, DevFault, PkgName, RelPath};
+use pn_fs::ReadFs;
+use pn_text::{AbsPath, DevFault, Memory, PkgName, RelPath};
 use std::alloc::Global;
 
 /// The package that a name finds from a folder that is its own real path: the real path of the name in the first
@@ -27,9 +28,23 @@ pub fn find<R: ReadFs>(
     ensures cause { HasCause (R.seen fs.old).faults (R.seen fs.new).faults result }
 {
     let name = name.as_path(alloc)?;
-    let mut folder = from.copy(alloc)?;
+    let folder = from.copy(alloc)?;
+    find_up(alloc, fs, folder, &name)
+}
+
+// The package that a name finds from a folder, or from those above.
+fn find_up<R: ReadFs>(
+    alloc: Global,
+    fs: &mut R,
+    mut folder: AbsPath,
+    name: &RelPath,
+) -> Result<Option<AbsPath>, DevFault>
+    ensures find { IfSome (R.seen fs.old).tree (λ t. IfOk result (λ found. found ≡ find t folder name.now)) }
+    ensures kept { Keeps (R.seen fs.old) (R.seen fs.new) }
+    ensures cause { HasCause (R.seen fs.old).faults (R.seen fs.new).faults result }
+{
     'folders: loop {
-        if let Some(found) = find_near(alloc, fs, &folder, &name)? {
+        if let Some(found) = find_near(alloc, fs, &folder, name)? {
             return Ok(Some(found));
         }
         match folder.parent(alloc)? {
@@ -81,15 +96,39 @@ fn walk_into<R: ReadFs>(
     ensures kept { Keeps (R.seen fs.old) (R.seen fs.new) }
     ensures cause { HasCause (R.seen fs.old).faults (R.seen fs.new).faults result }
 {
-    if fs.kind(folder)? == Kind::Folder {
-        let mut walk = Walk::new(alloc, folder.copy(alloc)?);
-        put_in_modules(alloc, &mut walk, name)?;
-        return Ok(walk);
+    if is_folder(fs, folder)? {
+        Ok(walk_from(alloc, folder, name)?)
+    } else {
+        Ok(walk_down(alloc, folder, name)?)
     }
+}
+
+fn walk_from(alloc: Global, folder: &AbsPath, name: &RelPath) -> Result<Walk, Memory>
+    ensures at { IfOk result (λ w. w.at ≡ folder.now) }
+    ensures steps { IfOk result (λ w. steps_of w.steps.items ≡ into modules ∷ path_steps name.now []) }
+{
+    let mut walk = Walk::new(alloc, folder.copy(alloc)?);
+    put_in_modules(alloc, &mut walk, name)?;
+    Ok(walk)
+}
+
+fn walk_down(alloc: Global, folder: &AbsPath, name: &RelPath) -> Result<Walk, Memory>
+    ensures at { IfOk result (λ w. w.at ≡ []) }
+    ensures steps { IfOk result (λ w. steps_of w.steps.items ≡ path_steps folder.now (into modules ∷ path_steps name.now [])) }
+{
     let mut walk = Walk::new(alloc, root(alloc)?);
     put_in_modules(alloc, &mut walk, name)?;
     walk.put(alloc, folder.as_str())?;
     Ok(walk)
+}
+
+// Puts the way to a name in `node_modules` before the other steps.
+fn put_in_modules(alloc: Global, walk: &mut Walk, name: &RelPath) -> Result<(), Memory>
+    ensures at { OnOk result (walk.new.at ≡ walk.old.at) }
+    ensures steps { OnOk result (steps_of walk.new.steps.items ≡ into modules ∷ path_steps name.now (steps_of walk.old.steps.items)) }
+{
+    walk.put(alloc, name.as_str())?;
+    walk.put(alloc, "node_modules")
 }
 
 // A path where a folder stands.
@@ -98,7 +137,7 @@ fn only_folder<R: ReadFs>(fs: &mut R, path: AbsPath) -> Result<Option<AbsPath>, 
     ensures kept { Keeps (R.seen fs.old) (R.seen fs.new) }
     ensures cause { HasCause (R.seen fs.old).faults (R.seen fs.new).faults result }
 {
-    if fs.kind(&path)? == Kind::Folder {
+    if is_folder(fs, &path)? {
         Ok(Some(path))
     } else {
         Ok(None)
