@@ -51,9 +51,6 @@ pub one_less : (links : ℕ) (t : Tree) → 0 < links → walk links t ≡ walk_
 one_less zero t h = absurd (omega arith)
 one_less (suc links) t h = ap (λ n. walk_on (walk n t) t) (let e : links ≡ suc links - 1 = omega arith in e)
 
-no_link : (t : Tree) (links : ℕ) (p : Path) (steps : List Step) → links ≡ 0 → walk links t p steps ≡ walk_on (λ q left. None) t p steps
-no_link t links p steps none = ap (λ n. walk n t p steps) none
-
 -- any number of links
 some_again : (links : ℕ) (t : Tree) → (again : Again) × (walk links t ≡ walk_on again t)
 some_again zero t = (λ q left. None, refl)
@@ -67,9 +64,6 @@ walk_nowhere links t p steps q left leg ended is = let w = some_again links t in
 
 pub walk_onward : (links : ℕ) (t : Tree) (p : Path) (steps : List Step) (q : Path) (left : List Step) (leg : Leg) → EndsAt t p steps q left leg → leg ≡ Onward → 0 < links → walk links t p steps ≡ walk (links - 1) t q left
 walk_onward links t p steps q left leg ended is some = ap (λ f. f p steps) (one_less links t some) ∙ ended (walk (links - 1) t) ∙ ap (ends (walk (links - 1) t) q left) is
-
-pub walk_stuck : (links : ℕ) (t : Tree) (p : Path) (steps : List Step) (q : Path) (left : List Step) (leg : Leg) → EndsAt t p steps q left leg → leg ≡ Onward → links ≡ 0 → walk links t p steps ≡ None
-walk_stuck links t p steps q left leg ended is none = no_link t links p steps none ∙ ended (λ r rest. None) ∙ ap (ends (λ r rest. None) q left) is
 
 pub keeps_on : {old mid new : Seen} → Keeps old mid → Keeps mid new → Keeps old new
 keeps_on a b = record { tree = b.tree ∙ a.tree; touched = b.touched ∙ a.touched; later = omega (arith, a.later, b.later) }

@@ -1,6 +1,6 @@
 -- Lemmas on the steps that texts stand for.
-use Rattle.std.proofs.Common.{◌≡◌, ◌≢◌, ℕ, ◌+◌, ◌<◌, ◌≤◌, List, [], ◌∷◌, ◌++◌, length, get_or, take, drop, refl, sym, ap, ◌∙◌, true, false, Some, None, zero, suc, arith, lit<}
-use Rattle.std.specs.Prelude.{Option, Result, Ok, Err, OnOk, ◌==◌, ◌||◌, if◌then◌else◌, not, IsTrue}
+use Rattle.std.proofs.Common.{◌≡◌, ◌≢◌, ℕ, ◌<◌, List, [], ◌∷◌, ◌++◌, length, get_or, take, drop, refl, sym, ap, ◌∙◌, true, false, Some, None, suc, arith, lit<}
+use Rattle.std.specs.Prelude.{Option, Result, Ok, Err, OnOk, ◌==◌, ◌||◌, not, IsTrue}
 use Rattle.std.specs.Option.{MatchOption}
 use Rattle.std.specs.List.{list_any}
 use Rattle.std.specs.Str.{NoCharPasses}
@@ -9,7 +9,7 @@ use Rattle.std.proofs.lemmas.Bool.{eqb-true}
 use Rattle.std.proofs.lemmas.List.{take-append-drop}
 use Rattle.std.proofs.lemmas.Str.Pattern.{NoCharPasses-char, drop_at_char}
 use denote.Ref.{Bor}
-use Rattle.pn_text.specs.Path.{Path, is_flat, parts_from, tail_of}
+use Rattle.pn_text.specs.Path.{Path, is_flat, tail_of}
 use Rattle.pn_text.proofs.Paths.{not_true, parts_from-append, parts_from-flat}
 use Rattle.pn_node.specs.Find.{Step, text_steps, before_steps, at_file}
 use Rattle.pn_node.specs.Steps.{step_of, step_before, steps_before, steps_of, IsStepOf}

@@ -1,19 +1,13 @@
 -- Lemmas on walks along texts of paths, and on the lookup from folder to folder.
-use Rattle.std.proofs.Common.{◌≡◌, ℕ, List, [], ◌∷◌, ◌++◌, refl, sym, ap, ◌∙◌, Bool, true, false, Some, None, subst, append-nil}
-use Rattle.std.specs.Prelude.{Option, Result, Ok, Err, IfOk, IfSome, IsTrue, if◌then◌else◌}
-use Rattle.std.specs.Str.{bytes_eq}
-use Rattle.pn_text.specs.Path.{Path, path_text, text_below, parts_from, tail_of, SpellsAbs, SpellsParts}
+use Rattle.std.proofs.Common.{◌≡◌, ℕ, List, [], ◌∷◌, ◌++◌, sym, ap, ◌∙◌, Some, None, append-nil}
+use Rattle.std.specs.Prelude.{Option, Result, Ok, Err, IfOk, IfSome}
+use Rattle.pn_text.specs.Path.{Path, parts_from, tail_of, SpellsAbs, SpellsParts}
 use Rattle.pn_text.specs.Name.{modules}
 use Rattle.pn_text.proofs.Paths.{parts_from-text_below, tail_of-spelled}
 use Rattle.pn_text.proofs.Joins.{below_begins}
 use Rattle.pn_text.proofs.Splits.{parts_from-below}
-use Rattle.pn_fs.specs.declared.kind.Kind.{Kind}
-use Rattle.pn_fs.specs.declared.kind.Kind.TheVariants.{Absent, Folder, File, Link}
-use Rattle.pn_fs.specs.Calls.{kind_of}
-use Rattle.pn_fs.specs.Tree.{Entry, folder, file, link, Tree, IsTree}
-use Rattle.pn_node.specs.Find.{Step, into, at_entry, text_steps, path_steps, walk, real, folder_or, dirs, find_in, find}
-use Rattle.pn_node.specs.Finds.{ends_in_modules}
-use Rattle.pn_node.specs.Lookups.{found_or, find_above, IsFoundNear, IsFolderOr}
+use Rattle.pn_fs.specs.Tree.{folder, Tree, IsTree}
+use Rattle.pn_node.specs.Find.{Step, into, text_steps, path_steps, walk, real}
 use Rattle.pn_node.proofs.Walks.{steps_split, walk_into}
 use Rattle.pn_node.proofs.Texts.{text_steps_down}
 
@@ -48,42 +42,7 @@ leads_from t tree p name at steps here same along =
     ∙ sym (walk_into (walk 39 t) t tree p (into modules ∷ path_steps name []) here)
     ∙ sym (ap (walk 40 t []) (steps_split name (modules ∷ p) []))
 
-pub kind_folder : (e : Option Entry) → kind_of e ≡ Folder → e ≡ Some folder
-kind_folder None h = cc
-kind_folder (Some folder) h = refl
-kind_folder (Some (file bytes)) h = cc
-kind_folder (Some (link text)) h = cc
-
-choice : (b : Bool) (t : Tree) (d : Path) (ds : List Path) (name : Path) → b ≡ false → find_in t (if b then ds else d ∷ ds) name ≡ folder_or t (real t (name ++ d)) (find_in t ds name)
-choice b t d ds name h = ap (λ c. find_in t (if c then ds else d ∷ ds) name) h
-
--- a folder that is named `node_modules` is passed over
-pub near_modules : (t : Tree) (p name : Path) → ends_in_modules p ≡ true → IsFoundNear t p name None
-near_modules t [] name h = cc
-near_modules t (x ∷ p) name h = ap (λ c. find_in t (if c then dirs p else (modules ∷ x ∷ p) ∷ dirs p) name) h
-
--- any other one is searched before the folder above
-near : (t : Tree) (p name : Path) → ends_in_modules p ≡ false → find t p name ≡ folder_or t (real t (name ++ modules ∷ p)) (find_above t p name)
-near t [] name h = refl
-near t (x ∷ p) name h = choice (bytes_eq x modules) t (modules ∷ x ∷ p) (dirs p) name h
-
-pub near_found : (t : Tree) (p name : Path) (q : Path) (found : Option Path) → ends_in_modules p ≡ false → Some q ≡ real t (name ++ modules ∷ p) → IsFolderOr t q found → IsFoundNear t p name found
-near_found t p name q found other is or = near t p name other ∙ ap (λ r. folder_or t r (find_above t p name)) (sym is) ∙ or (find_above t p name)
-
-pub near_none : (t : Tree) (p name : Path) → ends_in_modules p ≡ false → None ≡ real t (name ++ modules ∷ p) → IsFoundNear t p name None
-near_none t p name other is = near t p name other ∙ ap (λ r. folder_or t r (find_above t p name)) (sym is)
-
 pub if_found : {E : Type 0} (P Q : Tree → Option Path → Type 0) (o : Option Tree) (r : Result (Option Path) E) → ((t : Tree) (found : Option Path) → P t found → Q t found) → IfSome o (λ t. IfOk r (P t)) → IfSome o (λ t. IfOk r (Q t))
 if_found P Q None r f h = tt
 if_found P Q (Some t) (Ok found) f h = f t found h
 if_found P Q (Some t) (Err e) f h = tt
-
--- Up from a folder in whose `node_modules` nothing is found.
-pub find_next : (t : Tree) (p name : Path) (x : List ℕ) (q : Path) (found : Option Path) → IsFoundNear t p name found → found ≡ None → p ≡ x ∷ q → find t q name ≡ find t p name
-find_next t p name x q found near none is = sym (near ∙ ap (λ f. found_or f (find_above t p name)) none ∙ ap (λ r. find_above t r name) is)
-
-pub find_ends : (t : Tree) (p name : Path) (found : Option Path) → IsFoundNear t p name found → found ≡ None → p ≡ [] → None ≡ find t p name
-find_ends t p name found near none is = sym (near ∙ ap (λ f. found_or f (find_above t p name)) none ∙ ap (λ r. find_above t r name) is)
-
-pub find_here : (t : Tree) (p name : Path) (found : Option Path) (q : Path) → IsFoundNear t p name found → found ≡ Some q → Some q ≡ find t p name
-find_here t p name found q near some = sym (near ∙ ap (λ f. found_or f (find_above t p name)) some)

@@ -40,3 +40,6 @@ pub fn homes_law()
 pub fn real_law()
     ensures { RealLaw }
 {}
+
+#[cfg(test)]
+mod tests;

@@ -1,6 +1,5 @@
-use Rattle.std.proofs.Common.{◌≡◌, ◌++◌, ◌∷◌, Some}
+use Rattle.std.proofs.Common.{◌≡◌, Some}
 use Rattle.std.specs.Prelude.{◌↔◌, IsTrue}
-use Rattle.pn_text.specs.Name.{modules}
 use Rattle.pn_fs.specs.Tree.{folder}
 use Rattle.pn_node.specs.Steps.{steps_of}
 use Rattle.pn_node.specs.Lookups.{LeadsIn}

@@ -2,7 +2,7 @@ use Rattle.std.proofs.Common.{◌≡◌, sym, ◌∙◌, Some, None, arith}
 use Rattle.pn_node.specs.Find.{walk}
 use Rattle.pn_node.specs.Steps.{steps_of}
 use Rattle.pn_node.specs.Legs.{EndsAt}
-use Rattle.pn_node.proofs.LegLemmas.{walk_there, walk_nowhere, walk_onward, walk_stuck, keeps_on, for_some, if_some}
+use Rattle.pn_node.proofs.LegLemmas.{walk_there, walk_nowhere, walk_onward, keeps_on, for_some, if_some}
 use Rattle.pn_node.proofs.walk.Walk.finish.Goals as goal
 
 pub returns-in-There-clause-found : goal.returns-in-There-clause-found

@@ -1,4 +1,4 @@
-use Rattle.std.proofs.Common.{sym, ◌∙◌}
+use Rattle.std.proofs.Common.{◌∙◌}
 use Rattle.pn_node.specs.Steps.{step_of, steps_of}
 use Rattle.pn_node.specs.Legs.{Goes, EndsAt}
 use Rattle.pn_node.proofs.LegLemmas.{leg_on, leg_ends, keeps_on, for_some, if_some}
