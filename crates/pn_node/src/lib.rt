@@ -14,10 +14,10 @@ mod real_path;
 mod step;
 mod walk;
 
+ghost use Rattle.pn_node.specs.Finds.{HomesLaw, LookupLaw, RealLaw, TopLaw};
+
 pub use lookup::find;
 pub use real_path::real;
-
-ghost use Rattle.pn_node.specs.Finds.{HomesLaw, LookupLaw, RealLaw, TopLaw};
 
 /// From each folder of an installed package, the package's own name finds it, a dependency's name finds what its link
 /// leads to, and any other name finds what the virtual store's folder finds.
