@@ -9,3 +9,4 @@ pub mod Laws
 pub mod StepTexts
 pub mod LegLemmas
 pub mod Ups
+pub mod Ends

@@ -4,7 +4,8 @@
 //! Modules page. `specs/Plan` defines what an install plans, and the entries of its build: the managed folders with the
 //! packages, links and markers in them, and nothing else. This crate promises, of any tree that has exactly the build's
 //! entries at and below the managed folders, what each folder of an installed package finds by each name, and what a
-//! project's folder finds by the names of its dependencies (`specs/Finds`). No other crate says what a lookup finds.
+//! project's folder finds by the names of its dependencies (`specs/Finds`). `real` and `find` compute both over any file
+//! system, exactly where its tree is told. No other crate says what a lookup finds.
 #![tactic(auto)]
 
 mod entry;
@@ -14,7 +15,7 @@ mod real_path;
 mod step;
 mod walk;
 
-ghost use Rattle.pn_node.specs.Finds.{HomesLaw, LookupLaw, RealLaw, TopLaw};
+ghost use Rattle.pn_node.specs.Finds.{EndLaw, FoundLaw, HomesLaw, LookupLaw, RealLaw, TopLaw};
 
 pub use lookup::find;
 pub use real_path::real;
@@ -39,6 +40,16 @@ pub fn homes_law()
 /// A folder is its own real path.
 pub fn real_law()
     ensures { RealLaw }
+{}
+
+/// What is found as a real path is a folder or a file, and its own real path.
+pub fn end_law()
+    ensures { EndLaw }
+{}
+
+/// A package that is found is a folder.
+pub fn found_law()
+    ensures { FoundLaw }
 {}
 
 #[cfg(test)]
