@@ -6,3 +6,7 @@ pub mod NamePaths
 pub mod Places
 pub mod Builds
 pub mod Laws
+pub mod StepTexts
+pub mod LegLemmas
+pub mod Ups
+pub mod Ends

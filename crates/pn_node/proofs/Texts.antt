@@ -23,7 +23,7 @@ flat : (x : List ℕ) (p : Path) → IsTrue (is_path (x ∷ p)) → IsTrue (is_f
 flat x p h = and_left (is_flat x) (is_filled x) (and_left (is_part x) (is_path p) h)
 
 -- the steps of a text's parts down, and before them the steps up
-text_steps_down : (q dotted : Path) (steps : List Step) → IsTrue (is_path q) → text_steps (q ++ dotted) steps ≡ text_steps dotted (path_steps q steps)
+pub text_steps_down : (q dotted : Path) (steps : List Step) → IsTrue (is_path q) → text_steps (q ++ dotted) steps ≡ text_steps dotted (path_steps q steps)
 text_steps_down [] dotted steps h = refl
 text_steps_down (x ∷ q) dotted steps h =
     ap (text_steps (q ++ dotted)) (into_part x steps (filled x q h))

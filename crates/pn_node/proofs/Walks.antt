@@ -6,7 +6,7 @@ use Rattle.pn_fs.specs.Tree.{folder, Tree, IsTree}
 use Rattle.pn_node.specs.Find.{Step, into, at_entry, at_file, led, walk_on, walk, real, path_steps}
 
 -- the steps of a path below another one
-steps_split : (q b : Path) (steps : List Step) → path_steps (q ++ b) steps ≡ path_steps b (path_steps q steps)
+pub steps_split : (q b : Path) (steps : List Step) → path_steps (q ++ b) steps ≡ path_steps b (path_steps q steps)
 steps_split [] b steps = refl
 steps_split (x ∷ q) b steps = steps_split q b (into x ∷ steps)
 
@@ -17,7 +17,7 @@ walk_down again t tree (x ∷ q) b steps h =
     walk_down again t tree q b (into x ∷ steps) (tree.parents x (q ++ b) folder h)
     ∙ ap (λ e. at_entry e None (walk_on again t (x ∷ (q ++ b)) steps) (at_file (x ∷ (q ++ b)) steps) (λ text. led again (q ++ b) text steps)) h
 
-walk_into : (again : Path → List Step → Option Path) (t : Tree) → IsTree t → (p : Path) (steps : List Step) → t p ≡ Some folder → walk_on again t [] (path_steps p steps) ≡ walk_on again t p steps
+pub walk_into : (again : Path → List Step → Option Path) (t : Tree) → IsTree t → (p : Path) (steps : List Step) → t p ≡ Some folder → walk_on again t [] (path_steps p steps) ≡ walk_on again t p steps
 walk_into again t tree p steps h =
     walk_down again t tree p [] steps (ap t (append-nil p) ∙ h) ∙ ap (λ q. walk_on again t q steps) (append-nil p)
 

@@ -1,10 +1,10 @@
 -- What each folder of a build finds.
-use Rattle.std.specs.Prelude.{◌≡◌, ◌≢◌, ℕ, true, false, Bool, List, [], ◌∷◌, ◌++◌, Some}
+use Rattle.std.specs.Prelude.{◌≡◌, ◌≢◌, ◌⊎◌, ℕ, true, false, Bool, List, [], ◌∷◌, ◌++◌, Some}
 use Rattle.std.specs.List.{Contains}
 use Rattle.std.specs.Str.{bytes_eq}
 use Rattle.pn_text.specs.Path.{Path}
 use Rattle.pn_text.specs.Name.{is_name, name_path, modules}
-use Rattle.pn_fs.specs.Tree.{folder, Tree, IsTree}
+use Rattle.pn_fs.specs.Tree.{folder, Tree, IsTree, IsFile}
 use Rattle.pn_node.specs.Find.{real, find}
 use Rattle.pn_node.specs.Plan.{Instance, TopLink, Plan, home, IsBuilt, IsSound}
 
@@ -43,3 +43,16 @@ HomesLaw = (t : Tree) (plan : Plan) (g : Instance) → IsBuilt t plan → Contai
 -- A folder is its own real path.
 abbrev pub RealLaw : Type 0
 RealLaw = (t : Tree) (p : Path) → IsTree t → t p ≡ Some folder → real t p ≡ Some p
+
+-- A folder or a file that is its own real path.
+pub record IsEnd (t : Tree) (q : Path) : Type 0 where
+  pub stands : (t q ≡ Some folder) ⊎ IsFile t q
+  pub own : real t q ≡ Some q
+
+-- What is found as the real path of a path.
+abbrev pub EndLaw : Type 0
+EndLaw = (t : Tree) (p q : Path) → IsTree t → real t p ≡ Some q → IsEnd t q
+
+-- A package that is found is a folder.
+abbrev pub FoundLaw : Type 0
+FoundLaw = (t : Tree) (from name q : Path) → find t from name ≡ Some q → t q ≡ Some folder

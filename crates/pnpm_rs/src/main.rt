@@ -1,16 +1,11 @@
 //! The program: makes the real objects, runs the words, and ends with the status.
 #![tactic(auto)]
 
-mod faults;
-mod names;
 mod places;
-mod real_fs;
-mod real_sink;
 
 use crate::places::{current_folder, registry_folder, words};
-use crate::real_fs::RealFs;
-use crate::real_sink::RealSink;
 use pn_cmd::{Status, run, tell};
+use pn_real::{RealFs, RealSink};
 use pn_text::AbsPath;
 use std::process::ExitCode;
 

@@ -1,5 +1,5 @@
 // A real stream.
-ghost use Rattle.pnpm_rs.specs.Told.{untold_bytes};
+ghost use Rattle.pn_real.specs.Told.{untold_bytes};
 
 use crate::faults::counted;
 use pn_fs::Sink;

@@ -3,7 +3,7 @@ use Rattle.std.specs.List.{All}
 use Rattle.std.proofs.lemmas.List.{take_all}
 use Rattle.std.proofs.lemmas.List.Elements.{All-more}
 use Rattle.pn_fs.specs.Calls.{IsEntryName}
-use Rattle.pnpm_rs.proofs.names.all_good.Goals as goal
+use Rattle.pn_real.proofs.names.all_good.Goals as goal
 
 pub loop-name-preserved : goal.loop-name-preserved
 loop-name-preserved c =

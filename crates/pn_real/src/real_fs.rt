@@ -1,6 +1,6 @@
 // The real file system below a folder.
 ghost use Rattle.std.specs.Prelude.{◌≡◌, ◌≤◌, IfErr, IfOk, length};
-ghost use Rattle.pnpm_rs.specs.Told.{untold_tree, no_tree, no_finite_tree};
+ghost use Rattle.pn_real.specs.Told.{untold_tree, no_tree, no_finite_tree};
 
 use crate::faults::counted;
 use crate::names::names;

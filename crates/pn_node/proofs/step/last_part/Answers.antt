@@ -1,0 +1,5 @@
+use Rattle.pn_node.proofs.StepTexts.{last_cut}
+use Rattle.pn_node.proofs.step.last_part.Goals as goal
+
+pub returns : goal.returns
+returns c = last_cut c.args.text.now c.rsplit_once.result c.rsplit_once.ensures.cases
