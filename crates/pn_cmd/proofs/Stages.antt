@@ -89,25 +89,25 @@ pub tree_err : {T : Type 0} (r : Result T Status) (place : Path) (m : Manifest) 
 tree_err (Ok v) place m old mid new met lock k reached h = tt
 tree_err (Err s) place m old mid new met lock k reached h =
     λ d says.
-      let e = same_edges d m says in
-      inr (lock, inr (met, subst (λ own. IsReached old.registry.tree own met) e reached, subst (λ own. RefusedTree place own met old new s) e (tree_from place (edges_by m) met old mid new s k h)))
+    let e = same_edges d m says in
+    inr (lock, inr (met, subst (λ own. IsReached old.registry.tree own met) e reached, subst (λ own. RefusedTree place own met old new s) e (tree_from place (edges_by m) met old mid new s k h)))
 
 pub tree_ok : (r : Result Ready Status) (place : Path) (m : Manifest) (old mid : Sources) (met : List Found) → NothingStands old.project.tree (lock_name ∷ place) → AreKept old mid
     → IsReached old.registry.tree (edges_by m) met → IfOk r (IsReadyTree place (edges_by m) met mid) → IfOk r (λ ready. (d : Data) → Says d m → IsReadyBehind place d old ready)
 tree_ok (Err s) place m old mid met lock k reached h = tt
 tree_ok (Ok ready) place m old mid met lock k reached h =
     λ d says.
-      let e = same_edges d m says in
-      let all : IsReadyTree place (edges_of d) met mid ready = subst (λ own. IsReadyTree place own met mid ready) e h in
-      record {
-        passed = record {
-          lock = lock;
-          met = met;
-          reached = subst (λ own. IsReached old.registry.tree own met) e reached;
-          tree = tree_passed place (edges_of d) met ready.packages.items old mid k all.passed;
-        };
-        plan = all.plan;
-      }
+    let e = same_edges d m says in
+    let all : IsReadyTree place (edges_of d) met mid ready = subst (λ own. IsReadyTree place own met mid ready) e h in
+    record {
+      passed = record {
+        lock = lock;
+        met = met;
+        reached = subst (λ own. IsReached old.registry.tree own met) e reached;
+        tree = tree_passed place (edges_of d) met ready.packages.items old mid k all.passed;
+      };
+      plan = all.plan;
+    }
 
 -- what is answered behind the manifest
 pub behind_err : {T : Type 0} (r : Result T Status) (i : Inputs) (old new : Sources) (one two : Seen) (m : Manifest) → is_install i.words ≡ true → NothingStands old.project.tree (workspace_name ∷ i.place) → Keeps old.project one

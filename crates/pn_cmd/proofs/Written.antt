@@ -67,8 +67,11 @@ installs None place own packages plan (Some t) new is stand tree absent h =
     (h.0, h.1, record { built = tt; others = λ q out. h.2.others q (outside place own packages plan q is out) })
 installs (Some r) place own packages plan (Some t) new is stand tree absent h =
     let top = modules_path place in
-    let none = λ (q : Path). none_within t (tree t refl) top (q ++ top) absent (is_within_at q top) in
-    (h.0, h.1, record {
-      built = (built r top own packages plan t h.0 (is.build r stand) h.2 none).built;
-      others = λ q out. h.2.others q (outside place own packages plan q is out);
-    })
+    let none = λ (q : Path). none_within t (tree t refl) top (q ++ top) absent (is_within_at q top) in (
+      h.0,
+      h.1,
+      record {
+        built = (built r top own packages plan t h.0 (is.build r stand) h.2 none).built;
+        others = λ q out. h.2.others q (outside place own packages plan q is out);
+      },
+    )
