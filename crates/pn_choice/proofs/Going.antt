@@ -47,6 +47,7 @@ stops_in old mid new from deps items i item a b fault same within is kept taken 
       is = ap (edges_from from) (sym same) ∙ cut from items i item within is;
       grown = taken.grows;
       walked = then.walked;
+      few = then.good.few;
       refused = h;
     })
     (refuses_from (λ r. EdgeRefused r b.packages.items e) old mid new fault kept (refused then.good))
@@ -162,6 +163,7 @@ stops_along r own n w why within a s =
       at = record {
         walked = s.walked;
         before = stopped_before r own n w why within a s;
+        few = s.few;
         rest = rest;
         next = ap (all_edges own) (sym (take_all met s.met (omega arith))) ∙ stopped_edges r own n met ps why s within past;
       };
@@ -180,6 +182,7 @@ stops_first r own before why s = record {
   at = record {
     walked = s.walked;
     before = λ k. leads_all r own s.front (s.edge ∷ (s.rest ++ edges_in (take k s.met))) s.met (take k s.met) k s.walked (first_edges own s.front s.rest s.edge (take k s.met) s.is);
+    few = s.few;
     rest = s.rest ++ edges_in s.met;
     next = first_edges own s.front s.rest s.edge s.met s.is;
   };

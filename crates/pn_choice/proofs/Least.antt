@@ -1,11 +1,11 @@
 -- The packages that were met are the least set that is closed under dependencies.
-use Rattle.std.proofs.Common.{◌≡◌, ◌≤◌, ◌<◌, ℕ, suc, zero, List, [], ◌∷◌, ◌++◌, true, false, not, cond, Option, Some, length, map, take, drop, get_or, refl, sym, ap, ◌∙◌, subst, arith, codes, add-one}
+use Rattle.std.proofs.Common.{◌≡◌, ◌≤◌, ◌<◌, ℕ, suc, zero, List, [], ◌∷◌, ◌++◌, true, false, not, cond, Option, Some, length, map, take, get_or, refl, sym, ap, ◌∙◌, subst, arith, codes, add-one}
 use Rattle.std.specs.List.{All, Contains}
-use Rattle.std.proofs.lemmas.List.{map-append, append-nil, take_all, get_or-map, length-map}
+use Rattle.std.proofs.lemmas.List.{take_all}
 use Rattle.std.proofs.lemmas.List.Elements.{All-nil, All-cons, All-head, All-tail, All-append, All-weaker, All-map, All-contains, All-contains_itself, All-filter, All-get_or, All-more, All-take, filter_passes, Contains-append_right}
 use Rattle.serde_json.specs.Data.{Data}
 use Rattle.pn_text.specs.declared.ids.Edge.{Edge}
-use Rattle.pn_fs.specs.Tree.{Tree, Entry}
+use Rattle.pn_fs.specs.Tree.{Tree}
 use Rattle.pn_manifest.specs.Exact.{Id}
 use Rattle.pn_manifest.specs.Pairs.{Pair}
 use Rattle.pn_manifest.specs.Fields.{edges_of}
@@ -14,11 +14,11 @@ use Rattle.pn_registry.specs.Package.{IsText}
 use Rattle.pn_choice.specs.Edges.{id_of, id_text, target, targets, edge_of, edges_from, package_edges, edges_in, all_edges}
 use Rattle.pn_choice.specs.Firsts.{same_id, without, firsts, IsDistinct}
 use Rattle.pn_choice.specs.Found.{IsPackage}
-use Rattle.pn_choice.specs.Walked.{IsReached}
+use Rattle.pn_choice.specs.Walked.{Walked}
 use Rattle.pn_choice.specs.Reaches.{Reaches, direct, through, pair_id, ReachLaw}
 use Rattle.pn_choice.specs.declared.package.Package.{Package}
-use Rattle.pn_choice.proofs.Once.{same_id-is, same_id-refl, IsFrontOf, firsts_front, get_or-front}
-use Rattle.pn_choice.proofs.Going.{all_split}
+use Rattle.pn_choice.proofs.Once.{same_id-is, same_id-refl}
+use Rattle.pn_choice.proofs.Sequences.{IsMet, met_reached, next_id, text_once}
 
 -- each first is one of the list
 firsts_from : (xs : List Id) → All (Contains xs) (firsts xs)
@@ -82,49 +82,30 @@ edges_reach t own (q ∷ ps) found reached =
     (All-weaker (Contains q.dependencies) (λ p. Reaches t own (pair_id p)) (λ p c. through q.id here.value p at here.manifest.text (subst (λ (l : List Pair). Contains l p) here.edges c)) q.dependencies (All-contains_itself q.dependencies)))
     (edges_reach t own ps (All-tail (IsPackage (Some t)) q ps found) (All-tail (λ (q : Package). Reaches t own q.id) q ps reached))
 
-all_reach : (t : Tree) (own : List Pair) (ps : List Package) → All (IsPackage (Some t)) ps → All (λ (q : Package). Reaches t own q.id) ps → All (λ e. Reaches t own (target e)) (all_edges own ps)
+pub all_reach : (t : Tree) (own : List Pair) (ps : List Package) → All (IsPackage (Some t)) ps → All (λ (q : Package). Reaches t own q.id) ps → All (λ e. Reaches t own (target e)) (all_edges own ps)
 all_reach t own ps found reached =
     All-append (λ e. Reaches t own (target e)) (edges_from (codes ".") own) (edges_in ps)
     (All-map (λ e. Reaches t own (target e)) (edge_of (codes ".")) own (All-weaker (Contains own) (λ p. Reaches t own (pair_id p)) (λ p c. direct p c) own (All-contains_itself own)))
     (edges_reach t own ps found reached)
 
--- The package at a place is the first one at that place to which the edges of those before it lead.
-pub next_id : (own : List Pair) (met : List Package) (d : Package) (n : ℕ) → IsFrontOf (map id_of met) (firsts (targets (all_edges own met))) → n < length met → n < length (firsts (targets (all_edges own (take n met))))
-    → get_or (firsts (targets (all_edges own (take n met)))) n (id_of d) ≡ id_of (get_or met n d)
-next_id own met d n ids within before =
-    let A = all_edges own (take n met) in
-    let B = edges_in (drop n met) in
-    let F = firsts (targets A) in
-    let front = firsts_front (targets A) (targets B) in
-    let all : firsts (targets (all_edges own met)) ≡ F ++ front.more = ap (λ (l : List Edge). firsts (targets l)) (all_split own n met) ∙ ap firsts (map-append target A B) ∙ front.is in
-    let same : F ++ front.more ≡ map id_of met ++ ids.more = sym all ∙ ids.is in
-    sym (get_or-front F front.more n (id_of d) before)
-    ∙ ap (λ (l : List Id). get_or l n (id_of d)) same
-    ∙ get_or-front (map id_of met) ids.more n (id_of d) (omega (arith, length-map met id_of, within))
-    ∙ get_or-map id_of met n d (id_of d) within
-
--- all packages that the edges lead to are met
-pub ids_reached : (r : Option Tree) (own : List Pair) (met : List Package) → IsReached r own met → IsFrontOf (map id_of met) (firsts (targets (all_edges own met)))
-ids_reached r own met h = record { more = []; is = sym h.walked.ids ∙ sym (append-nil (map id_of met)) }
-
 -- one package more is reached
-next_reached : (t : Tree) (own : List Pair) (met : List Package) (d : Package) (n : ℕ) → IsReached (Some t) own met → n < length met → All (λ (q : Package). Reaches t own q.id) (take n met) → Reaches t own (get_or met n d).id
+next_reached : (t : Tree) (own : List Pair) (met : List Package) (d : Package) (n : ℕ) → IsMet t own met → n < length met → All (λ (q : Package). Reaches t own q.id) (take n met) → Reaches t own (get_or met n d).id
 next_reached t own met d n h within reached =
     let A = all_edges own (take n met) in
     let F = firsts (targets A) in
-    let led : All (Reaches t own) (targets A) = All-map (Reaches t own) target A (all_reach t own (take n met) (All-take (IsPackage (Some t)) n met h.walked.found) reached) in
+    let led : All (Reaches t own) (targets A) = All-map (Reaches t own) target A (all_reach t own (take n met) (All-take (IsPackage (Some t)) n met h.found) reached) in
     let firsts_led : All (Reaches t own) F = All-weaker (Contains (targets A)) (Reaches t own) (λ x c. All-contains (Reaches t own) (targets A) x led c) F (firsts_from (targets A)) in
-    let at : get_or F n (id_of d) ≡ id_of (get_or met n d) = next_id own met d n (ids_reached (Some t) own met h) within (h.before n within) in
+    let at : get_or F n (id_of d) ≡ id_of (get_or met n d) = next_id own met d n h.ids within (h.before n within) in
     subst (Reaches t own) at (All-get_or (Reaches t own) F n (id_of d) (h.before n within) firsts_led)
 
-up_to : (t : Tree) (own : List Pair) (met : List Package) (d : Package) → IsReached (Some t) own met → (n : ℕ) → n ≤ length met → All (λ (q : Package). Reaches t own q.id) (take n met)
+up_to : (t : Tree) (own : List Pair) (met : List Package) (d : Package) → IsMet t own met → (n : ℕ) → n ≤ length met → All (λ (q : Package). Reaches t own q.id) (take n met)
 up_to t own met d h zero le = All-nil (λ (q : Package). Reaches t own q.id)
 up_to t own met d h (suc n) le =
     let before = up_to t own met d h n (omega arith) in
     subst (λ (k : ℕ). All (λ (q : Package). Reaches t own q.id) (take k met)) (add-one n)
     (All-more (λ (q : Package). Reaches t own q.id) met n d (omega arith) before (next_reached t own met d n h (omega arith) before))
 
-sound : (t : Tree) (own : List Pair) (met : List Package) → IsReached (Some t) own met → All (λ (q : Package). Reaches t own q.id) met
+pub sound : (t : Tree) (own : List Pair) (met : List Package) → IsMet t own met → All (λ (q : Package). Reaches t own q.id) met
 sound t own [] h = All-nil (λ (q : Package). Reaches t own q.id)
 sound t own (p ∷ ps) h = subst (All (λ (q : Package). Reaches t own q.id)) (take_all (length (p ∷ ps)) (p ∷ ps) (omega arith)) (up_to t own (p ∷ ps) p h (length (p ∷ ps)) (omega arith))
 
@@ -139,15 +120,6 @@ All-left P (x ∷ xs) ys h = All-cons P x xs (All-head P x (xs ++ ys) h) (All-le
 pub All-right : {X : Type 0} (P : X → Type 0) (xs ys : List X) → All P (xs ++ ys) → All P ys
 All-right P [] ys h = h
 All-right P (x ∷ xs) ys h = All-right P xs ys (All-tail P x (xs ++ ys) h)
-
--- a file has one value
-pub text_once : (e : Option Entry) (v w : Data) → IsText e v → IsText e w → v ≡ w
-text_once e v w a b =
-    let i = a.is in
-    let j = b.is in
-    let k = a.text.read in
-    let l = b.text.read in
-    cc
 
 -- The dependencies of the package are among the ids.
 Closed : Tree → List Id → Id → Type 0
@@ -171,20 +143,18 @@ complete t own ids first next _ (direct e c) = All-contains (λ p. Contains ids 
 complete t own ids first next _ (through id v e r text c) = All-contains (Closed t ids) ids id next (complete t own ids first next id r) v e text c
 
 -- each edge leads to one of the packages
-pub leads_to : (r : Option Tree) (own : List Pair) (met : List Package) → IsReached r own met → All (λ e. Contains (map id_of met) (target e)) (all_edges own met)
-leads_to r own met h =
-    let all = targets (all_edges own met) in
-    All-unmap (Contains (map id_of met)) target (all_edges own met) (subst (λ (l : List Id). All (Contains l) all) (sym h.walked.ids) (firsts_all all))
+pub leads_to : (r : Option Tree) (all : List Edge) (met : List Package) → Walked r all met → All (λ e. Contains (map id_of met) (target e)) all
+leads_to r all met w = All-unmap (Contains (map id_of met)) target all (subst (λ (l : List Id). All (Contains l) (targets all)) (sym w.ids) (firsts_all (targets all)))
 
 pub least : ReachLaw
 least t own met h =
     let ids = map id_of met in
     let all = targets (all_edges own met) in
-    let led : All (λ e. Contains ids (target e)) (all_edges own met) = leads_to (Some t) own met h in
+    let led : All (λ e. Contains ids (target e)) (all_edges own met) = leads_to (Some t) (all_edges own met) met h.walked in
     let first = All-unmap (λ e. Contains ids (target e)) (edge_of (codes ".")) own (All-left (λ e. Contains ids (target e)) (edges_from (codes ".") own) (edges_in met) led) in
     let next = All-map (Closed t ids) id_of met (closed t ids met h.walked.found (All-right (λ e. Contains ids (target e)) (edges_from (codes ".") own) (edges_in met) led)) in
     record {
-      sound = λ x c. All-contains (Reaches t own) ids x (All-map (Reaches t own) id_of met (sound t own met h)) c;
+      sound = λ x c. All-contains (Reaches t own) ids x (All-map (Reaches t own) id_of met (sound t own met (met_reached t own met h))) c;
       complete = complete t own ids first next;
       once = subst IsDistinct (sym h.walked.ids) (distinct_firsts all);
     }

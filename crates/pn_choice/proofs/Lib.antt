@@ -2,6 +2,8 @@ pub mod Steps
 pub mod Once
 pub mod Taking
 pub mod Going
+pub mod Sequences
 pub mod Least
 pub mod Sorting
+pub mod Reasons
 pub mod Settled

@@ -1,182 +1,107 @@
--- The registry settles which packages are met, and whether an edge is refused.
-use Rattle.std.proofs.Common.{◌≡◌, ◌≤◌, ◌<◌, ℕ, suc, zero, List, [], ◌∷◌, ◌++◌, Bool, false, true, Option, Some, None, length, length-append, map, take, drop, get_or, refl, sym, ap, ◌∙◌, subst, arith, append_assoc, add-one, inl, inr}
+-- The registry settles the answer.
+use Rattle.std.proofs.Common.{◌≡◌, ◌≤◌, List, [], ◌∷◌, ◌++◌, false, true, Some, length, length-append, map, drop, refl, sym, ap, ◌∙◌, subst, arith, append_assoc, inl, inr}
 use Rattle.std.specs.List.{All, Contains}
-use Rattle.std.proofs.lemmas.List.{map-append, take_all, take-append-drop, take_more_same, length-map}
-use Rattle.std.proofs.lemmas.List.Elements.{All-head, All-map, All-contains, All-weaker, All-get_or}
-use Rattle.serde_json.specs.Data.{Data}
+use Rattle.std.proofs.lemmas.Bool.{cases_lt}
+use Rattle.std.proofs.lemmas.List.{map-append, length-map}
+use Rattle.std.proofs.lemmas.List.Elements.{All-head, All-contains}
 use Rattle.pn_text.specs.declared.ids.Edge.{Edge}
-use Rattle.pn_fs.specs.Tree.{Tree, Entry, file}
-use Rattle.pn_manifest.specs.Exact.{Id, is_exact}
+use Rattle.pn_fs.specs.Tree.{Tree}
+use Rattle.pn_manifest.specs.Exact.{is_exact}
 use Rattle.pn_manifest.specs.Pairs.{Pair}
-use Rattle.pn_manifest.specs.Fields.{first_later, edges_of}
-use Rattle.pn_manifest.specs.Text.{IsObjectText}
-use Rattle.pn_registry.specs.Places.{manifest_path}
-use Rattle.pn_registry.specs.Package.{first_wrong_of, IsText}
-use Rattle.pn_choice.specs.Edges.{id_of, id_text, target, targets, edges_in, all_edges}
+use Rattle.pn_choice.specs.Edges.{id_of, target, targets, edges_in, all_edges}
 use Rattle.pn_choice.specs.Firsts.{firsts, is_in}
-use Rattle.pn_choice.specs.Found.{HasManifest, IsPackage, IsNoManifest, NoPackage}
-use Rattle.pn_choice.specs.Refusals.{IsFull, EdgeRefused}
-use Rattle.pn_choice.specs.Walked.{LeadsOn, IsReached, StopsAt}
-use Rattle.pn_choice.specs.Laws.{PassedLaw, SameLaw}
+use Rattle.pn_choice.specs.Refusals.{IsFull, EdgeRefused, IsStopped}
+use Rattle.pn_choice.specs.Walked.{Walked, package_limit}
+use Rattle.pn_choice.specs.Reaches.{Reaches}
+use Rattle.pn_choice.specs.Laws.{PassedLaw, SameLaw, CauseLaw, EdgeLaw}
 use Rattle.pn_choice.specs.declared.package.Package.{Package}
-use Rattle.pn_choice.specs.declared.fault.PackageWhy.{PackageWhy}
-use Rattle.pn_choice.specs.declared.fault.PackageWhy.TheVariants.{Missing, NotJson, BadField}
 use Rattle.pn_choice.specs.declared.fault.ReachFault.{ReachFault}
-use Rattle.pn_choice.specs.declared.fault.ReachFault.TheVariants.{NotYet, NoVersion, TextLimit, Manifest, Packages, Fault, Memory}
-use Rattle.pn_choice.proofs.Once.{IsFrontOf, firsts_front, firsts_new}
-use Rattle.pn_choice.proofs.Going.{all_edges-append, all_split, leads_more}
-use Rattle.pn_choice.proofs.Least.{text_once, All-right, next_id, ids_reached, leads_to}
-
--- Packages in the order in which they are met, up to some place.
-record IsMet (t : Tree) (own : List Pair) (met : List Package) : Type 0 where
-  found : All (IsPackage (Some t)) met
-  before : LeadsOn own met (length met)
-  ids : IsFrontOf (map id_of met) (firsts (targets (all_edges own met)))
-
-met_reached : (t : Tree) (own : List Pair) (met : List Package) → IsReached (Some t) own met → IsMet t own met
-met_reached t own met h = record { found = h.walked.found; before = h.before; ids = ids_reached (Some t) own met h }
-
-met_stopped : (t : Tree) (own : List Pair) (done : List Edge) (e : Edge) (met : List Package) → StopsAt (Some t) own done e met → IsMet t own met
-met_stopped t own done e met s =
-    let front = firsts_front (targets done) (targets (e ∷ s.rest)) in
-    record {
-      found = s.walked.found;
-      before = s.before;
-      ids = record {
-        more = front.more;
-        is = ap (λ (l : List Edge). firsts (targets l)) s.next ∙ ap firsts (map-append target done (e ∷ s.rest)) ∙ front.is ∙ ap (λ (l : List Id). l ++ front.more) (sym s.walked.ids);
-      };
-    }
-
--- an id has one package
-one_package : (t : Tree) (p q : Package) → IsPackage (Some t) p → IsPackage (Some t) q → p.id ≡ q.id → p ≡ q
-one_package t p q a b same =
-    let value : a.value ≡ b.value = text_once (t (manifest_path p.id)) a.value b.value a.manifest.text (subst (λ (i : Id). IsText (t (manifest_path i)) b.value) (sym same) b.manifest.text) in
-    let edges : p.dependencies ≡ q.dependencies = a.edges ∙ ap edges_of value ∙ sym b.edges in
-    ap (λ (i : Id). record { id = i; dependencies = p.dependencies }) same ∙ ap (λ (l : List Pair). record { id = q.id; dependencies = l }) edges
-
--- Two such lists are the same as far as both go.
-alike : (t : Tree) (own : List Pair) (a b : List Package) (d : Package) → IsMet t own a → IsMet t own b → (k : ℕ) → k ≤ length a → k ≤ length b → take k a ≡ take k b
-alike t own a b d h g zero le lf = refl
-alike t own a b d h g (suc k) le lf =
-    let here : k < length a = omega arith in
-    let there : k < length b = omega arith in
-    let same : take k a ≡ take k b = alike t own a b d h g k (omega arith) (omega arith) in
-    let id : id_of (get_or a k d) ≡ id_of (get_or b k d) =
-    sym (next_id own a d k h.ids here (h.before k here)) ∙ ap (λ (l : List Package). get_or (firsts (targets (all_edges own l))) k (id_of d)) same ∙ next_id own b d k g.ids there (g.before k there) in
-    let one : get_or a k d ≡ get_or b k d = one_package t (get_or a k d) (get_or b k d) (All-get_or (IsPackage (Some t)) a k d here h.found) (All-get_or (IsPackage (Some t)) b k d there g.found) id in
-    subst (λ (n : ℕ). take n a ≡ take n b) (add-one k) (take_more_same a b k d here there same one)
-
--- None of them is longer than the packages that are reached.
-no_longer : (t : Tree) (own : List Pair) (a b : List Package) (d : Package) → IsMet t own a → IsReached (Some t) own b → (k : ℕ) → k ≤ length a → k ≤ length b
-no_longer t own a b d h g zero le = omega arith
-no_longer t own a b d h g (suc k) le =
-    let A = all_edges own (take k b) in
-    let within : k ≤ length b = no_longer t own a b d h g k (omega arith) in
-    let same : take k a ≡ take k b = alike t own a b d h (met_reached t own b g) k (omega arith) within in
-    let led : k < length (firsts (targets A)) = subst (λ (l : List Package). k < length (firsts (targets (all_edges own l)))) same (h.before k (omega arith)) in
-    let all : length (firsts (targets A)) ≤ length (firsts (targets (all_edges own b))) = subst (λ (l : List Edge). length (firsts (targets A)) ≤ length (firsts (targets l))) (sym (all_split own k b)) (leads_more A (edges_in (drop k b))) in
-    omega (arith, led, all, ap length g.walked.ids, length-map b id_of)
-
--- The packages that are reached begin with them.
-begins : (t : Tree) (own : List Pair) (a b : List Package) → IsMet t own a → IsReached (Some t) own b → b ≡ a ++ drop (length a) b
-begins t own [] b h g = refl
-begins t own (p ∷ ps) b h g =
-    let a = p ∷ ps in
-    let within : length a ≤ length b = no_longer t own a b p h g (length a) (omega arith) in
-    let same : take (length a) b ≡ a = sym (alike t own a b p h (met_reached t own b g) (length a) (omega arith) within) ∙ take_all (length a) a (omega arith) in
-    sym (take-append-drop (length a) b) ∙ ap (λ (l : List Package). l ++ drop (length a) b) same
-
-same_by : (t : Tree) (own : List Pair) (a b : List Package) (d : Package) → IsReached (Some t) own a → IsReached (Some t) own b → a ≡ b
-same_by t own a b d h g =
-    let up : length a ≤ length b = no_longer t own a b d (met_reached t own a h) g (length a) (omega arith) in
-    let down : length b ≤ length a = no_longer t own b a d (met_reached t own b g) h (length b) (omega arith) in
-    sym (take_all (length a) a (omega arith)) ∙ alike t own a b d (met_reached t own a h) (met_reached t own b g) (length a) (omega arith) up ∙ take_all (length a) b down
+use Rattle.pn_choice.proofs.Once.{firsts_new}
+use Rattle.pn_choice.proofs.Going.{all_edges-append, leads_more}
+use Rattle.pn_choice.proofs.Sequences.{met_reached, met_stopped, longest, begins, even}
+use Rattle.pn_choice.proofs.Least.{All-right, leads_to, all_reach, sound}
+use Rattle.pn_choice.proofs.Reasons.{IsRight, all_right, no_edge, one_cause}
 
 pub same : SameLaw
-same t own [] [] h g = refl
-same t own [] (q ∷ qs) h g = same_by t own [] (q ∷ qs) q h g
-same t own (p ∷ ps) others h g = same_by t own (p ∷ ps) others p h g
-
--- A package stands there whose manifest is right and built.
-record IsRight (t : Tree) (i : Id) : Type 0 where
-  value : Data
-  manifest : HasManifest (Some t) i value
-  built : first_later value ≡ None
-  short : length (id_text i) ≤ 120
-
-all_right : (t : Tree) (ps : List Package) → All (IsPackage (Some t)) ps → All (IsRight t) (map id_of ps)
-all_right t ps found = All-map (IsRight t) id_of ps (All-weaker (IsPackage (Some t)) (λ p. IsRight t (id_of p)) (λ p h. record { value = h.value; manifest = h.manifest; built = h.built; short = h.short }) ps found)
-
-none_some : {A : Type 0} (o : Option A) (x : A) → o ≡ None → o ≡ Some x → ⊥
-none_some o x a b = cc
-
-file_once : (e : Option Entry) (x y : List ℕ) → e ≡ Some (file x) → e ≡ Some (file y) → x ≡ y
-file_once e x y a b = cc
-
-no_wrong : (t : Tree) (i : Id) (why : PackageWhy) → IsRight t i → IsNoManifest (Some t) i why → ⊥
-no_wrong t i Missing r h = h r.manifest.text.bytes r.manifest.text.is
-no_wrong t i NotJson r h =
-    let bytes = file_once (t (manifest_path i)) r.manifest.text.bytes h.bytes r.manifest.text.is h.is in
-    h.none r.value (subst (λ (b : List ℕ). IsObjectText b r.value) bytes r.manifest.text.text)
-no_wrong t i (BadField f k) r h =
-    let value = text_once (t (manifest_path i)) r.value h.value r.manifest.text h.text in
-    none_some (first_wrong_of i h.value) (f, k) (ap (first_wrong_of i) (sym value) ∙ r.manifest.right) h.wrong
-
-no_refusal : (t : Tree) (e : Edge) (fault : ReachFault) → IsRight t (target e) → NoPackage (Some t) e fault → ⊥
-no_refusal t e (NotYet text) r h =
-    let value = text_once (t (manifest_path (target e))) r.value h.0 r.manifest.text h.1.text in
-    let built : first_later h.0 ≡ None = ap first_later (sym value) ∙ r.built in
-    elim h.2 [
-      | inl later ↦ none_some (first_later h.0) text built later
-      | inr long ↦ absurd (omega (arith, long.1, r.short))
-    ]
-no_refusal t e (NoVersion at) r h = h.1 r.manifest.stands
-no_refusal t e (TextLimit n) r h =
-    let bytes = file_once (t (manifest_path (target e))) r.manifest.text.bytes h.2.0 r.manifest.text.is h.2.1 in
-    absurd (omega (arith, h.1, h.2.2, ap length bytes, r.manifest.text.short))
-no_refusal t e (Manifest id why) r h = no_wrong t id why (subst (IsRight t) (sym h.0) r) h.2
-no_refusal t e (Packages n) r h = h
-no_refusal t e Fault r h = h
-no_refusal t e Memory r h = h
-
-true_false : (b : Bool) → b ≡ true → b ≡ false → ⊥
-true_false b x y = cc
-
--- An exact edge to a right package is refused for no other cause than the limit.
-no_edge : (t : Tree) (met : List Package) (e : Edge) (fault : ReachFault) → is_exact e.specifier ≡ true → IsRight t (target e) → (IsFull (Some t) met e → ⊥) → EdgeRefused (Some t) met e fault → ⊥
-no_edge t met e (NotYet text) exact r room h = elim h [
-  | inl other ↦ true_false (is_exact e.specifier) exact other.0
-  | inr gone ↦ no_refusal t e (NotYet text) r gone.1
-]
-no_edge t met e (NoVersion at) exact r room h = no_refusal t e (NoVersion at) r h.1
-no_edge t met e (TextLimit n) exact r room h = no_refusal t e (TextLimit n) r h.1
-no_edge t met e (Manifest id why) exact r room h = no_refusal t e (Manifest id why) r h.1
-no_edge t met e (Packages n) exact r room h = room h.1
-no_edge t met e Fault exact r room h = h
-no_edge t met e Memory exact r room h = h
-
--- There is room for one package more.
-has_room : (t : Tree) (own : List Pair) (met a : List Package) (done rest : List Edge) (e : Edge) → IsReached (Some t) own met → map id_of a ≡ firsts (targets done) → all_edges own met ≡ done ++ e ∷ rest → IsFull (Some t) a e → ⊥
-has_room t own met a done rest e g ids is full =
-    let further = done ++ e ∷ [] in
-    let fresh : is_in (target e) (firsts (targets done)) ≡ false = ap (is_in (target e)) (sym ids) ∙ full.new.fresh in
-    let one : firsts (targets further) ≡ firsts (targets done) ++ target e ∷ [] = ap firsts (map-append target done (e ∷ [])) ∙ firsts_new (targets done) (target e) fresh in
-    let all : length (firsts (targets further)) ≤ length (firsts (targets (all_edges own met))) = subst (λ (l : List Edge). length (firsts (targets further)) ≤ length (firsts (targets l))) (append_assoc done (e ∷ []) rest ∙ sym is) (leads_more further rest) in
-    absurd (omega (arith, all, ap length one, length-append (firsts (targets done)) (target e ∷ []), ap length ids, length-map a id_of, ap length g.walked.ids, length-map met id_of, g.few, full.full))
+same t own a b h g =
+    let up = longest t own a b (met_reached t own a h) g in
+    let down = longest t own b a (met_reached t own b g) h in
+    even t own a b (met_reached t own a h) (met_reached t own b g) (omega (arith, up, down))
 
 -- the edge at a place
 All-at : (P : Edge → Type 0) (done rest : List Edge) (e : Edge) → All P (done ++ e ∷ rest) → P e
 All-at P done rest e all = All-head P e rest (All-right P done (e ∷ rest) all)
 
+-- The packages of more edges leave room for one that is new behind these.
+has_room : (t : Tree) (all done rest : List Edge) (e : Edge) (a b : List Package) → Walked (Some t) done a → Walked (Some t) all b → length b ≤ package_limit → all ≡ done ++ e ∷ rest → IsFull (Some t) a e → ⊥
+has_room t all done rest e a b w v few is full =
+    let further = done ++ e ∷ [] in
+    let fresh : is_in (target e) (firsts (targets done)) ≡ false = ap (is_in (target e)) (sym w.ids) ∙ full.new.fresh in
+    let one : firsts (targets further) ≡ firsts (targets done) ++ target e ∷ [] = ap firsts (map-append target done (e ∷ [])) ∙ firsts_new (targets done) (target e) fresh in
+    let more : length (firsts (targets further)) ≤ length (firsts (targets all)) = subst (λ (l : List Edge). length (firsts (targets further)) ≤ length (firsts (targets l))) (append_assoc done (e ∷ []) rest ∙ sym is) (leads_more further rest) in
+    absurd (omega (arith, more, ap length one, length-append (firsts (targets done)) (target e ∷ []), ap length w.ids, length-map a id_of, ap length v.ids, length-map b id_of, few, full.full))
+
+-- An edge that was taken isn't refused.
+not_taken : (t : Tree) (all done rest : List Edge) (e : Edge) (a b : List Package) (fault : ReachFault) → Walked (Some t) done a → Walked (Some t) all b → length b ≤ package_limit → all ≡ done ++ e ∷ rest → EdgeRefused (Some t) a e fault → ⊥
+not_taken t all done rest e a b fault w v few is refused =
+    let exact : is_exact e.specifier ≡ true = All-at (λ (d : Edge). is_exact d.specifier ≡ true) done rest e (subst (All (λ (d : Edge). is_exact d.specifier ≡ true)) is v.exact) in
+    let led : Contains (map id_of b) (target e) = All-at (λ (d : Edge). Contains (map id_of b) (target d)) done rest e (subst (All (λ (d : Edge). Contains (map id_of b) (target d))) is (leads_to (Some t) all b v)) in
+    no_edge t a e fault exact (All-contains (IsRight t) (map id_of b) (target e) (all_right t b v.found) led) (has_room t all done rest e a b w v few is) refused
+
+-- the edges up to a place, where more packages were met since
+further : (own : List Pair) (done rest : List Edge) (e : Edge) (a b more : List Package) → b ≡ a ++ more → all_edges own a ≡ done ++ e ∷ rest → all_edges own b ≡ done ++ e ∷ (rest ++ edges_in more)
+further own done rest e a b more grown next =
+    ap (all_edges own) grown ∙ all_edges-append own a more ∙ ap (λ (l : List Edge). l ++ edges_in more) next ∙ append_assoc done (e ∷ rest) (edges_in more)
+
 pub passed : PassedLaw
 passed t own met fault g s =
-    let more = edges_in (drop (length s.met) met) in
-    let e = s.edge in
-    let is : all_edges own met ≡ s.done ++ e ∷ (s.at.rest ++ more) =
-    ap (all_edges own) (begins t own s.met met (met_stopped t own s.done e s.met s.at) g) ∙ all_edges-append own s.met (drop (length s.met) met)
-    ∙ ap (λ (l : List Edge). l ++ more) s.at.next ∙ append_assoc s.done (e ∷ s.at.rest) more in
-    let exact : is_exact e.specifier ≡ true = All-at (λ (d : Edge). is_exact d.specifier ≡ true) s.done (s.at.rest ++ more) e (subst (All (λ (d : Edge). is_exact d.specifier ≡ true)) is g.walked.exact) in
-    let led : Contains (map id_of met) (target e) = All-at (λ (d : Edge). Contains (map id_of met) (target d)) s.done (s.at.rest ++ more) e (subst (All (λ (d : Edge). Contains (map id_of met) (target d))) is (leads_to (Some t) own met g)) in
-    let right : IsRight t (target e) = All-contains (IsRight t) (map id_of met) (target e) (all_right t met g.walked.found) led in
-    no_edge t s.met e fault exact right (has_room t own met s.met s.done (s.at.rest ++ more) e g s.at.walked.ids is) s.refused
+    let more = drop (length s.met) met in
+    let stopped = met_stopped t own s.done s.edge s.met s.at in
+    let grown : met ≡ s.met ++ more = begins t own s.met met stopped (met_reached t own met g) (longest t own s.met met stopped g) in
+    not_taken t (all_edges own met) s.done (s.at.rest ++ edges_in more) s.edge s.met met fault s.at.walked g.walked g.few (further own s.done s.at.rest s.edge s.met met more grown s.at.next) s.refused
+
+pub edge : EdgeLaw
+edge t own why s =
+    let reached = sound t own s.met (met_stopped t own s.done s.edge s.met s.at) in
+    let all : All (λ e. Reaches t own (target e)) (all_edges own s.met) = all_reach t own s.met s.at.walked.found reached in
+    All-at (λ e. Reaches t own (target e)) s.done s.at.rest s.edge (subst (All (λ e. Reaches t own (target e))) s.at.next all)
+
+-- Two places in one list.
+data Places (xs ys : List Edge) (x y : Edge) : Type 0 where
+  level : xs ≡ ys → x ≡ y → Places xs ys x y
+  earlier : (m : List Edge) → ys ≡ xs ++ x ∷ m → Places xs ys x y
+  later : (m : List Edge) → xs ≡ ys ++ y ∷ m → Places xs ys x y
+
+places : (xs ys r s : List Edge) (x y : Edge) → xs ++ x ∷ r ≡ ys ++ y ∷ s → Places xs ys x y
+places [] [] r s x y e = level refl cc
+places [] (b ∷ ys) r s x y e = earlier ys cc
+places (a ∷ xs) [] r s x y e = later xs cc
+places (a ∷ xs) (b ∷ ys) r s x y e =
+    let head : a ≡ b = cc in
+    elim (places xs ys r s x y cc) [
+      | level same is ↦ level (ap (λ (c : Edge). c ∷ xs) head ∙ ap (λ (l : List Edge). b ∷ l) same) is
+      | earlier m is ↦ earlier m (ap (λ (c : Edge). c ∷ ys) (sym head) ∙ ap (λ (l : List Edge). a ∷ l) is)
+      | later m is ↦ later m (ap (λ (c : Edge). c ∷ xs) head ∙ ap (λ (l : List Edge). b ∷ l) is)
+    ]
+
+-- Two stops, the first of which met no more packages.
+one_by : (t : Tree) (own : List Pair) (f g : ReachFault) (a : IsStopped own (Some t) f) (b : IsStopped own (Some t) g) → length a.met ≤ length b.met → f ≡ g
+one_by t own f g a b le =
+    let first = met_stopped t own a.done a.edge a.met a.at in
+    let second = met_stopped t own b.done b.edge b.met b.at in
+    let more = drop (length a.met) b.met in
+    let at = further own a.done a.at.rest a.edge a.met b.met more (begins t own a.met b.met first second le) a.at.next in
+    elim (places a.done b.done (a.at.rest ++ edges_in more) b.at.rest a.edge b.edge (sym at ∙ b.at.next)) [
+      | earlier m is ↦ absurd (not_taken t b.done a.done m a.edge a.met b.met f a.at.walked b.at.walked b.at.few is a.refused)
+      | later m is ↦ absurd (not_taken t a.done b.done m b.edge b.met a.met g b.at.walked a.at.walked a.at.few is b.refused)
+      | level done edge ↦
+          let long : length a.met ≡ length b.met = sym (length-map a.met id_of) ∙ ap length a.at.walked.ids ∙ ap (λ (l : List Edge). length (firsts (targets l))) done ∙ sym (ap length b.at.walked.ids) ∙ length-map b.met id_of in
+          let met : a.met ≡ b.met = even t own a.met b.met first second long in
+          one_cause t b.met b.edge f g (subst (λ (l : List Package). EdgeRefused (Some t) l b.edge f) met (subst (λ (e : Edge). EdgeRefused (Some t) a.met e f) edge a.refused)) b.refused
+    ]
+
+pub cause : CauseLaw
+cause t own f g a b = elim (cases_lt (length a.met) (length b.met)) [
+  | inl fewer ↦ one_by t own f g a b (omega arith)
+  | inr no_more ↦ sym (one_by t own g f b a no_more)
+]

@@ -33,5 +33,6 @@ pub record IsReached (r : Option Tree) (own : List Pair) (met : List Package) : 
 pub record StopsAt (r : Option Tree) (own : List Pair) (done : List Edge) (e : Edge) (met : List Package) : Type 0 where
   pub walked : Walked r done met
   pub before : LeadsOn own met (length met)
+  pub few : length met ≤ package_limit
   pub rest : List Edge
   pub next : all_edges own met ≡ done ++ e ∷ rest

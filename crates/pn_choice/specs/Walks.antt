@@ -68,6 +68,7 @@ pub record StopsIn (edges done : List Edge) (before : List Package) (r : Option 
   pub is : edges ≡ front ++ edge ∷ rest
   pub grown : IsFront before met
   pub walked : Walked r (done ++ front) met
+  pub few : length met ≤ package_limit
   pub refused : EdgeRefused r met edge fault
 
 -- the edges of the package at a place

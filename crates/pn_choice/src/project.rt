@@ -3,7 +3,7 @@ ghost use Rattle.std.specs.Prelude.{◌≡◌, OnOk, IfOk, IfErr, List, codes};
 ghost use Rattle.pn_text.specs.declared.ids.Edge.{Edge as TheEdge};
 ghost use Rattle.pn_fs.specs.Seen.{Keeps};
 ghost use Rattle.pn_choice.specs.Edges.{edges_by, edges_from};
-ghost use Rattle.pn_choice.specs.Laws.{PassedLaw, SameLaw};
+ghost use Rattle.pn_choice.specs.Laws.{PassedLaw, SameLaw, CauseLaw, EdgeLaw};
 ghost use Rattle.pn_choice.specs.Reaches.{ReachLaw};
 ghost use Rattle.pn_choice.specs.Refusals.{Refuses, IsStopped};
 ghost use Rattle.pn_choice.specs.Walked.{IsReached};
@@ -51,6 +51,16 @@ pub fn passed_law()
 /// The packages that are reached, and their order, are settled by the registry.
 pub fn same_law()
     ensures { SameLaw }
+{}
+
+/// The refusal is settled by the registry.
+pub fn cause_law()
+    ensures { CauseLaw }
+{}
+
+/// The edge that is refused is the project's or that of a package that is reached.
+pub fn edge_law()
+    ensures { EdgeLaw }
 {}
 
 // Takes the project's own edges.
