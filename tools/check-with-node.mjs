@@ -5,7 +5,7 @@ import { execFileSync } from 'node:child_process';
 import { cpSync, existsSync, readFileSync, symlinkSync } from 'node:fs';
 import { basename, join } from 'node:path';
 import { generate } from './generated.mjs';
-import { compareLoads, compareLookup, compareOdd, hasFindCheck, questionsOf } from './lookups.mjs';
+import { buildFindCheck, compareLoads, compareLookup, compareOdd, hasFindCheck, questionsOf } from './lookups.mjs';
 import { installedTree, isExact, isName, reached, readManifest } from './packages.mjs';
 import { build, finish, program, run, top } from './program.mjs';
 import { differences, entriesOf, put, temporary } from './trees.mjs';
@@ -164,6 +164,7 @@ const checkOdd = () => {
 
 try {
   build();
+  buildFindCheck();
   finish('check-with-node', [...checkDemo(), ...checkGenerated(), ...checkCarried(), ...checkOdd()]);
 } catch (e) {
   console.log(`check-with-node: ${e.message}`);

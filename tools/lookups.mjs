@@ -1,4 +1,5 @@
 // What names find from folders, for the checks: what the manifests say, what Node answers, and what find_check answers.
+import { spawnSync } from 'node:child_process';
 import { existsSync } from 'node:fs';
 import { join } from 'node:path';
 import { edgesOf, homeOf, readManifest } from './packages.mjs';
@@ -7,6 +8,11 @@ import { entriesOf, put, temporary } from './trees.mjs';
 
 const findCheck = join(top, 'crates', 'find_check', 'out', 'find_check');
 const askNode = join(top, 'tools', 'ask-node.mjs');
+
+// Builds the program that answers by the proved calls, where it isn't built yet and the kit's command is there.
+export const buildFindCheck = () => {
+  if (!existsSync(findCheck)) spawnSync('rt', ['run'], { cwd: join(top, 'crates', 'find_check'), input: '' });
+};
 
 export const hasFindCheck = () => existsSync(findCheck);
 
