@@ -21,7 +21,8 @@ use Rattle.pn_choice.specs.Found.{IsPackage}
 use Rattle.pn_choice.specs.Reaches.{Reaches}
 use Rattle.pn_choice.specs.Walked.{IsReached}
 use Rattle.pn_choice.specs.declared.package.Package.{Package as Found}
-use Rattle.pn_choice.proofs.Least.{least, text_once}
+use Rattle.pn_choice.proofs.Least.{least}
+use Rattle.pn_choice.proofs.Sequences.{text_once}
 use Rattle.pn_layout.specs.declared.packages.Package.{Package}
 use Rattle.pn_layout.specs.Laws.{FindsAll, FindsOwn}
 use Rattle.pn_layout.specs.Layout.{plan_of}

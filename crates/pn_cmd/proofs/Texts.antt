@@ -1,14 +1,11 @@
 -- The text of a manifest's path in the registry.
 use Rattle.std.proofs.Common.{◌≡◌, ℕ, List, [], ◌∷◌, ◌++◌, refl, sym, ap, ◌∙◌, codes}
+use Rattle.std.proofs.lemmas.List.{append_assoc}
 use Rattle.pn_text.specs.Path.{Path, text_below, path_text, SpellsParts}
 use Rattle.pn_text.specs.Name.{name_path}
 use Rattle.pn_manifest.specs.Exact.{Id}
 use Rattle.pn_registry.specs.Places.{manifest_path}
 use Rattle.pn_cmd.specs.Graph.{registry_text}
-
-append_assoc : (xs ys zs : List ℕ) → (xs ++ ys) ++ zs ≡ xs ++ (ys ++ zs)
-append_assoc [] ys zs = refl
-append_assoc (x ∷ xs) ys zs = ap (λ (l : List ℕ). x ∷ l) (append_assoc xs ys zs)
 
 lead : (l : List ℕ) → codes "registry:/" ++ l ≡ codes "registry:" ++ 47 ∷ l
 lead l = refl
