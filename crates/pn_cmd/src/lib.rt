@@ -6,12 +6,18 @@
 
 mod check;
 mod entry;
+#[cfg(test)]
+mod fault_tests;
 mod faults;
+#[cfg(test)]
+mod fixtures;
 mod graph;
 mod manifest;
 mod packages;
 mod plan;
 mod ready;
+#[cfg(test)]
+mod refusal_tests;
 mod standing;
 mod status;
 #[cfg(test)]

@@ -1,0 +1,158 @@
+// Runs in which calls of the outside fail.
+
+use crate::fixtures::{A, B, PROJECT, fill, run_in, shown};
+use pn_fs::{Fs, Kind, MemFs, MemSink, ReadFs, SureFs, SureSink};
+use pn_text::AbsPath;
+use std::alloc::Global;
+use std::test::Fail;
+
+// A run in which a call of a tree fails: the status, what it tells, whether the managed folder stands,
+// and the numbers of that tree's first call in the run and of the call behind its last one.
+#[derive(Drop)]
+struct Trial {
+    code: u8,
+    err: SureSink,
+    stands: bool,
+    first: u64,
+    end: u64,
+}
+
+fn stands<P: ReadFs>(alloc: Global, fs: &mut P) -> Result<bool, Fail> {
+    let path = AbsPath::read(alloc, "/w/node_modules")?;
+    Ok(fs.kind(&path)? == Kind::Folder)
+}
+
+fn install<P: Fs, R: ReadFs>(
+    alloc: Global,
+    project: &mut P,
+    registry: &mut R,
+) -> Result<(u8, SureSink), Fail> {
+    let mut out = SureSink::new(alloc);
+    let mut err = SureSink::new(alloc);
+    let code = run_in(
+        alloc, "/w", "install", project, registry, &mut out, &mut err,
+    )?;
+    Ok((code, err))
+}
+
+// The k-th call of the project fails.
+fn with_project(alloc: Global, k: u64) -> Result<Trial, Fail> {
+    let mut project = MemFs::new(alloc, vec![in alloc; k]?);
+    fill(alloc, &mut project, PROJECT)?;
+    let mut registry = SureFs::new(alloc);
+    fill(alloc, &mut registry, A)?;
+    fill(alloc, &mut registry, B)?;
+    let first = project.calls();
+    let (code, err) = install(alloc, &mut project, &mut registry)?;
+    Ok(Trial {
+        code,
+        err,
+        first,
+        end: project.calls(),
+        stands: stands(alloc, &mut project)?,
+    })
+}
+
+// The k-th call of the registry fails.
+fn with_registry(alloc: Global, k: u64) -> Result<Trial, Fail> {
+    let mut project = SureFs::new(alloc);
+    fill(alloc, &mut project, PROJECT)?;
+    let mut registry = MemFs::new(alloc, vec![in alloc; k]?);
+    fill(alloc, &mut registry, A)?;
+    fill(alloc, &mut registry, B)?;
+    let first = registry.calls();
+    let (code, err) = install(alloc, &mut project, &mut registry)?;
+    Ok(Trial {
+        code,
+        err,
+        first,
+        end: registry.calls(),
+        stands: stands(alloc, &mut project)?,
+    })
+}
+
+#[test]
+fn each_failed_call_of_the_project_is_told(rt: HostRuntime) -> Result<(), Fail> {
+    let alloc = rt.alloc();
+    let whole = with_project(alloc, u64::MAX)?;
+    assert_eq!(rt; whole.code, 0);
+    assert!(rt; whole.stands);
+    // a call for each of the three paths that are to be free, three for the manifest, and then the
+    // managed folder is made
+    assert!(rt; whole.end > whole.first + 7);
+    for k in whole.first..whole.end {
+        let trial = with_project(alloc, k)?;
+        assert_eq!(rt; trial.code, 20);
+        assert_eq!(rt; trial.err.bytes(), b"pnpm-rs: project fault\n".as_slice());
+        assert_eq!(rt; trial.end, k + 1);
+        assert_eq!(rt; trial.stands, k > whole.first + 6);
+    }
+    Ok(())
+}
+
+#[test]
+fn each_failed_call_of_the_registry_is_told(rt: HostRuntime) -> Result<(), Fail> {
+    let alloc = rt.alloc();
+    let whole = with_registry(alloc, u64::MAX)?;
+    assert_eq!(rt; whole.code, 0);
+    assert!(rt; whole.end > whole.first);
+    for k in whole.first..whole.end {
+        let trial = with_registry(alloc, k)?;
+        assert_eq!(rt; trial.code, 22);
+        assert_eq!(rt; trial.err.bytes(), b"pnpm-rs: registry fault\n".as_slice());
+        assert_eq!(rt; trial.end, k + 1);
+    }
+    assert!(rt; !with_registry(alloc, whole.first)?.stands);
+    assert!(rt; with_registry(alloc, whole.end - 1)?.stands);
+    Ok(())
+}
+
+#[test]
+fn a_failed_report_is_told(rt: HostRuntime) -> Result<(), Fail> {
+    let alloc = rt.alloc();
+    for (k, code, text) in [(0, 23, "pnpm-rs: output fault\n"), (1, 0, "")] {
+        let mut project = SureFs::new(alloc);
+        fill(alloc, &mut project, "/w/package.json {}")?;
+        let mut registry = SureFs::new(alloc);
+        let mut out = MemSink::new(alloc, vec![in alloc; k]?);
+        let mut err = SureSink::new(alloc);
+        let answer = run_in(
+            alloc,
+            "/w",
+            "install",
+            &mut project,
+            &mut registry,
+            &mut out,
+            &mut err,
+        )?;
+        assert_eq!(rt; answer, code);
+        assert_eq!(rt; out.calls(), 1);
+        assert_eq!(rt; err.bytes(), text.as_bytes());
+        assert!(rt; stands(alloc, &mut project)?);
+    }
+    Ok(())
+}
+
+#[test]
+fn a_refusal_that_cannot_be_told_stays(rt: HostRuntime) -> Result<(), Fail> {
+    let alloc = rt.alloc();
+    let mut project = SureFs::new(alloc);
+    fill(alloc, &mut project, PROJECT)?;
+    let mut registry = SureFs::new(alloc);
+    fill(alloc, &mut registry, A)?;
+    let mut out = SureSink::new(alloc);
+    let mut err = MemSink::new(alloc, vec![in alloc; 0]?);
+    let code = run_in(
+        alloc,
+        "/w",
+        "install",
+        &mut project,
+        &mut registry,
+        &mut out,
+        &mut err,
+    )?;
+    assert_eq!(rt; code, 6);
+    assert_eq!(rt; err.calls(), 1);
+    assert_eq!(rt; err.bytes().len(), 0);
+    Ok(())
+}
