@@ -1,6 +1,6 @@
 // Runs in which calls of the outside fail.
 
-use crate::fixtures::{A, B, PROJECT, fill, run_in, shown};
+use crate::fixtures::{A, B, PROJECT, fill, run_in};
 use pn_fs::{Fs, Kind, MemFs, MemSink, ReadFs, SureFs, SureSink};
 use pn_text::AbsPath;
 use std::alloc::Global;
