@@ -10,3 +10,9 @@ pub mod Spaced
 pub mod Joins
 pub mod Sets
 pub mod LawProofs
+pub mod Accepts
+pub mod Passes
+pub mod Follow
+pub mod FollowParts
+pub mod FollowRanges
+pub mod Stopped
