@@ -1,21 +1,20 @@
 -- Comparators one after another, and `A - B`.
-use Rattle.std.proofs.Common.{◌≡◌, ◌≢◌, ◌≤◌, ◌<◌, ◌+◌, ◌-◌, ℕ, suc, Bool, true, false, List, [], ◌∷◌, ◌++◌, length, Option, Some, None, Result, Ok, Err, IfErr, refl, sym, ap, subst, ◌∙◌, arith, inl, inr, append_assoc, append-nil, length-append, add_assoc}
+use Rattle.std.proofs.Common.{◌≡◌, ◌≤◌, ◌<◌, ◌+◌, ℕ, Bool, true, false, List, [], ◌∷◌, ◌++◌, length, Option, Some, Result, Ok, Err, IfErr, refl, sym, ap, subst, ◌∙◌, arith, inl, inr, append_assoc, length-append}
 use Rattle.std.proofs.Math.Nat.{add_comm}
-use Rattle.std.specs.Prelude.{◌==◌, ◌&&◌, ◌||◌, ◌⊎◌, not, if◌then◌else◌}
-use Rattle.std.specs.List.{list_all}
+use Rattle.std.specs.Prelude.{◌==◌, ◌&&◌, ◌⊎◌}
 use Rattle.std.specs.Result.{IsErrAnd}
 use Rattle.pn_ranges.specs.declared.comparator.Sign.{Sign}
 use Rattle.pn_ranges.specs.declared.fault.Stop.{Stop}
 use Rattle.pn_ranges.specs.declared.fault.Stop.TheVariants as stop
 use Rattle.pn_ranges.specs.declared.partial.Partial.{Partial}
 use Rattle.pn_ranges.specs.Bytes.{is_space, starts_with}
-use Rattle.pn_ranges.specs.Edges.{IsRaised, LeftWithin, left_at, named_by}
+use Rattle.pn_ranges.specs.Edges.{IsRaised, left_at}
 use Rattle.pn_ranges.specs.Grammar.{AreComparators, AreGaps, AreSpaces, IsComparator, IsRange}
 use Rattle.pn_ranges.specs.Grammar as g
 use Rattle.pn_ranges.specs.Limits.{Limit}
-use Rattle.pn_ranges.specs.Places.{Turn, State, after, turn_of, first, later, start, closed, dash, gap, fault_comparator, first_fault}
-use Rattle.pn_ranges.specs.Reading.{ComparatorsAt, HasOver, HyphenAt, IsOver, LowerAt, RangeAt, SpacedAt, Stops, UpperAt, ends_range, comparator, upper}
-use Rattle.pn_ranges.specs.Table.{Named, all_fit, between, limits, or_any, raised, upper_limits, upper_raised}
+use Rattle.pn_ranges.specs.Places.{after, turn_of, first, later, start, closed, dash, gap, fault_comparator, first_fault}
+use Rattle.pn_ranges.specs.Reading.{ComparatorsAt, HasOver, HyphenAt, LowerAt, RangeAt, SpacedAt, Stops, UpperAt, ends_range, comparator, upper}
+use Rattle.pn_ranges.specs.Table.{Named, all_fit, between, limits, or_any, upper_limits}
 
 -- the automaton where a comparator comes, and where a range ends
 pub gap-comparator : (h : Bool) (text : List ℕ) → starts_with is_space text ≡ false → ends_range text ≡ false → (h && starts_with (λ b. b == 45) text) ≡ false

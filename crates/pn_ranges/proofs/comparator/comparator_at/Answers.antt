@@ -1,4 +1,4 @@
-use Rattle.std.proofs.Common.{◌≡◌, ℕ, List, length, arith, ap, sym, ◌∙◌, false}
+use Rattle.std.proofs.Common.{ℕ, List, length, arith, ap, sym, ◌∙◌}
 use Rattle.pn_ranges.specs.Places.{fault_comparator}
 use Rattle.pn_ranges.specs.Bytes.{is_space}
 use Rattle.pn_ranges.proofs.Fronts.{behind-le, append-le}

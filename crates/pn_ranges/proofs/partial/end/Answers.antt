@@ -1,4 +1,4 @@
-use Rattle.std.proofs.Common.{◌≡◌, ℕ, List, length, arith, ap, ◌∙◌}
+use Rattle.std.proofs.Common.{ℕ, List, length, arith, ap, ◌∙◌}
 use Rattle.pn_ranges.specs.Places.{lead, first_fault}
 use Rattle.pn_ranges.specs.Bytes.{is_lead}
 use Rattle.pn_ranges.proofs.Fronts.{behind-le}

@@ -1,4 +1,3 @@
-use Rattle.std.proofs.Common.{◌≡◌, ◌∙◌}
 use Rattle.pn_ranges.proofs.Partials.{one-partial, two-partial, three-partial}
 use Rattle.pn_ranges.proofs.partial.parts.Goals as goal
 

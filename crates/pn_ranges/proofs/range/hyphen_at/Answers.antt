@@ -1,4 +1,4 @@
-use Rattle.std.proofs.Common.{◌≡◌, ℕ, List, true, false, length, arith, ap, sym, ◌∙◌, inl, inr, refl}
+use Rattle.std.proofs.Common.{sym, ◌∙◌, inr}
 use Rattle.pn_ranges.specs.Edges.{named_by}
 use Rattle.pn_ranges.specs.Places.{first_fault, dash}
 use Rattle.pn_ranges.specs.Table.{upper_limits, upper_raised}

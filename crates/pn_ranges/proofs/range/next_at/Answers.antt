@@ -1,6 +1,4 @@
-use Rattle.std.proofs.Common.{◌≡◌, ◌++◌, append_assoc, ℕ, List, true, false, length, arith, ap, sym, ◌∙◌, inl, inr, refl}
-use Rattle.std.specs.Prelude.{◌⊎◌, Option}
-use Rattle.pn_ranges.specs.declared.fault.Stop.{Stop}
+use Rattle.std.proofs.Common.{◌++◌, append_assoc, false, sym, ◌∙◌, refl}
 use Rattle.pn_ranges.specs.Edges.{named_by}
 use Rattle.pn_ranges.specs.Places.{first_fault, gap, later}
 use Rattle.pn_ranges.specs.Table.{limits, raised}

@@ -1,4 +1,4 @@
-use Rattle.std.proofs.Common.{◌≡◌, ◌++◌, ◌+◌, ◌∷◌, [], ◌≤◌, ℕ, List, length, subst, append_assoc, arith, ap, sym, ◌∙◌, true, false}
+use Rattle.std.proofs.Common.{◌++◌, ◌∷◌, [], sym, ◌∙◌, false}
 use Rattle.pn_ranges.specs.Edges.{named_by}
 use Rattle.pn_ranges.specs.Places.{dash, first, first_fault, gap, start}
 use Rattle.pn_ranges.specs.Table.{limits, raised}

@@ -1,4 +1,4 @@
-use Rattle.std.proofs.Common.{◌≡◌, ℕ, List, length, arith, ap, sym, ◌∙◌}
+use Rattle.std.proofs.Common.{ℕ, List, length, arith, ap, sym, ◌∙◌}
 use Rattle.pn_ranges.specs.Bytes.{is_space}
 use Rattle.pn_ranges.specs.Edges.{named_by}
 use Rattle.pn_ranges.specs.Places.{dash, first_fault, upper}
