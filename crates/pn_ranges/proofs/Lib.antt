@@ -8,6 +8,7 @@ pub mod Comparisons
 pub mod Pres
 pub mod Spaced
 pub mod Joins
+pub mod OverProofs
 pub mod Sets
 pub mod LawProofs
 pub mod Accepts

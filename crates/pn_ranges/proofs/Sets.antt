@@ -9,7 +9,9 @@ use Rattle.pn_ranges.specs.Grammar.{AreRanges}
 use Rattle.pn_ranges.specs.Grammar as g
 use Rattle.pn_ranges.specs.Limits.{Limit}
 use Rattle.pn_ranges.specs.Places.{State, bar, closed, start, step, may_end, is_large, on_step, first_fault}
-use Rattle.pn_ranges.specs.Reading.{HasOver, RangeAt, RangesBefore, SpacedRange, Stops, ends_range}
+use Rattle.pn_ranges.specs.Reading.{RangeAt, RangesBefore, SpacedRange, Stops, ends_range}
+use Rattle.pn_ranges.specs.Overs.{HasOver}
+use Rattle.pn_ranges.proofs.OverProofs.{over-within}
 use Rattle.pn_ranges.specs.Refusals.{IsLeftOf, RangeRefused, refusal_of}
 use Rattle.pn_ranges.proofs.Fronts.{front-behind, front-all, behind-le}
 use Rattle.pn_ranges.proofs.Steps.{run}
@@ -120,7 +122,7 @@ fault-left (b ∷ rest) q s h = elim (step q b) as (λ o. on_step o (λ n. if is
 
 pub stops-left : (text : List ℕ) (s : Stop) → Stops (first_fault start text) text s → IsLeftOf (length text) s
 stops-left text (stop.Byte n) h = fault-left text start (stop.Byte n) h
-stops-left text (stop.Number n) h = elim h [ inl f ↦ fault-left text start (stop.Number n) f | inr o ↦ o.within ]
+stops-left text (stop.Number n) h = elim h [ inl f ↦ fault-left text start (stop.Number n) f | inr o ↦ over-within text n o ]
 stops-left text stop.Memory h = tt
 
 back : (n m : ℕ) → n ≤ m → m - (m - n) ≡ n

@@ -1,5 +1,5 @@
 -- Comparators and ends with spaces behind them.
-use Rattle.std.proofs.Common.{◌≡◌, ◌≤◌, ℕ, true, false, List, [], ◌∷◌, ◌++◌, length, Option, Some, None, Result, Ok, Err, IfErr, refl, sym, ap, ◌∙◌, arith, inl, inr}
+use Rattle.std.proofs.Common.{◌≡◌, ℕ, true, false, List, [], ◌∷◌, ◌++◌, Option, Some, None, Result, Ok, Err, IfErr, refl, sym, ap, ◌∙◌, inl, inr}
 use Rattle.std.specs.List.{list_all}
 use Rattle.std.specs.Result.{IsErrAnd}
 use Rattle.std.proofs.lemmas.Bool.{cases_Bool}
@@ -9,8 +9,7 @@ use Rattle.semver.proofs.Segments.{parts-dot, parts-one}
 use Rattle.pn_ranges.specs.declared.comparator.Sign.{Sign}
 use Rattle.pn_ranges.specs.declared.fault.Stop.{Stop}
 use Rattle.pn_ranges.specs.Bytes.{is_space, front_of, behind, starts_with}
-use Rattle.pn_ranges.specs.declared.partial.Partial.{Partial}
-use Rattle.pn_ranges.specs.Edges.{HasPre, LeftWithin}
+use Rattle.pn_ranges.specs.Edges.{HasPre}
 use Rattle.pn_ranges.specs.Grammar.{AreGaps, AreIdentifiers, AreSpaces, Begins, IsCompared, IsComparator, IsEnd, IsPartial, IsTail}
 use Rattle.pn_ranges.specs.Grammar as g
 use Rattle.pn_ranges.specs.Places.{Turn, first, later, upper, after, closed, dash, far, gap, lead, fault_after, first_fault}
@@ -129,11 +128,3 @@ end-pre _ n (g.end l t _ h p) = partial-pre t n p
 
 pub comparator-pre : (t : List ℕ) (x : Sign) (n : Named) → IsComparator t x n → HasPre n
 comparator-pre _ _ n (g.comparator o s t x _ i b e j) = end-pre t n e
-
--- a longer text, and a shorter rest
-pub within-wider : (p : Partial) (mid text rest back : List ℕ) → LeftWithin p mid rest → length mid ≤ length text → length back ≤ length rest → LeftWithin p text back
-within-wider p mid text rest back w wide less = record {
-  shorter = let s = w.shorter in omega arith;
-  low = λ k. let s = w.low k in omega arith;
-  high = λ k. let s = w.high k in omega arith;
-}

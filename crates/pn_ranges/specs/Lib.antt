@@ -4,6 +4,7 @@ pub mod Table
 pub mod Edges
 pub mod Grammar
 pub mod Forms
+pub mod Overs
 pub mod Places
 pub mod Reading
 pub mod Refusals
