@@ -4,10 +4,9 @@
 
 use pn_ranges::Range;
 use semver::Version;
-use std::env;
 use std::hint::black_box;
-use std::io;
 use std::time::{Duration, Instant};
+use std::{env, io};
 
 const ROUNDS: u32 = 1_000_000;
 
