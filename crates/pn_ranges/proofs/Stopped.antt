@@ -9,10 +9,16 @@ use Rattle.pn_ranges.specs.Forms as f
 use Rattle.pn_ranges.specs.Grammar.{AreComparators, AreRanges, IsEnd, IsRange}
 use Rattle.pn_ranges.specs.Grammar as g
 use Rattle.pn_ranges.specs.Limits.{Limit}
-use Rattle.pn_ranges.specs.PlaceLaw.{StopsAt, PlaceLaw}
+use Rattle.pn_ranges.specs.PlaceLaw.{IsLongAt, StopsAt, PlaceLaw}
 use Rattle.pn_ranges.specs.Places.{State, Turn, step, may_end, is_digits, is_large, on_step, first_fault}
 use Rattle.pn_ranges.specs.Places as p
-use Rattle.pn_ranges.specs.Refusals.{HasBadByte}
+use Rattle.pn_ranges.specs.Refusals.{HasBadByte, HasLargeNumber}
+use Rattle.pn_ranges.specs.Overs.{HasOver}
+use Rattle.std.specs.Prelude.{nat_le, not, ◌&&◌, ◌⊎◌}
+use Rattle.std.proofs.Common.{◌^◌, ◌*◌, ◌≤◌, Bool, drop}
+use Rattle.std.proofs.lemmas.Bool.{leb-true}
+use Rattle.std.proofs.lemmas.Bool.Decides.{nat_tests}
+use Rattle.pn_ranges.specs.Bytes.{number_at, number_from}
 use Rattle.pn_ranges.specs.Table.{named}
 use Rattle.pn_ranges.proofs.Accepts.{accepts, on_some}
 use Rattle.pn_ranges.proofs.Passes.{forms-go}
@@ -167,5 +173,90 @@ goes-on text at h =
       early = λ e a. let x : true ≡ false = sym (forms-go text a) ∙ none-whole p.start text at i e in cc;
     }
 
+-- a text in which a number of 2^64 or more begins behind so many bytes
+data LargeIn : State → List ℕ → ℕ → Type 0 where
+  here : (s next : State) (b : ℕ) (rest : List ℕ) → step s b ≡ Some next → is_large s next (b ∷ rest) ≡ true → LargeIn s (b ∷ rest) 0
+  later : (s next : State) (b at : ℕ) (rest : List ℕ) → step s b ≡ Some next → is_large s next (b ∷ rest) ≡ false → LargeIn next rest at → LargeIn s (b ∷ rest) (suc at)
+
+record Large (s : State) (text : List ℕ) (left : ℕ) : Type 0 where
+  at : ℕ
+  split : at + left ≡ length text
+  is : LargeIn s text at
+
+number-of : (m n : ℕ) → Some (stop.Number m) ≡ Some (stop.Number n) → 0 + n ≡ m
+number-of m n h = let e : m ≡ n = cc h in omega arith
+
+large : (text : List ℕ) (s : State) (n : ℕ) → first_fault s text ≡ Some (stop.Number n) → Large s text n
+large [] s n h = elim (may_end s) as (λ v. (if v then None else Some (stop.Byte 0)) ≡ Some (stop.Number n) → Large s [] n) [
+  | true ↦ λ k. cc k
+  | false ↦ λ k. cc k
+] h
+large (b ∷ rest) s n h =
+    elim (step s b) as (λ o. step s b ≡ o → on_step o (λ m. if is_large s m (b ∷ rest) then Some (stop.Number (length (b ∷ rest))) else first_fault m rest) (Some (stop.Byte (length (b ∷ rest)))) ≡ Some (stop.Number n)
+    → Large s (b ∷ rest) n) [
+      | None ↦ λ e k. cc k
+      | Some m ↦ λ e k. elim (is_large s m (b ∷ rest)) as (λ v. is_large s m (b ∷ rest) ≡ v → (if v then Some (stop.Number (length (b ∷ rest))) else first_fault m rest) ≡ Some (stop.Number n) → Large s (b ∷ rest) n) [
+        | true ↦ λ l j. record { at = 0; split = number-of (length (b ∷ rest)) n j; is = here s m b rest e l }
+        | false ↦ λ l j.
+            let i = large rest m n j in
+            let more : suc i.at + n ≡ suc (length rest) = let a = i.split in omega arith in
+            record { at = suc i.at; split = more; is = later s m b i.at rest e l i.is }
+      ] refl k
+    ] refl h
+
+-- one digit is a small number
+one-digit : (b : ℕ) → nat_le (2 ^ 64) (number_at (b ∷ [])) ≡ false
+unfolding number_from
+one-digit b = elim (cases_Bool (is_digit b)) [
+  | inl digit ↦ rw digit (small b digit)
+  | inr other ↦ rw other (grind (arith, nat_tests))
+] where
+  small : (b : ℕ) → is_digit b ≡ true → nat_le (2 ^ 64) (0 * 10 + (b - 48)) ≡ false
+  small b h = grind (arith, nat_tests)
+
+and-no : (x y z : Bool) → z ≡ false → (x && y && z) ≡ false
+and-no true true z h = h
+and-no true false z h = refl
+and-no false y z h = refl
+
+no-text : (s : State) → is_digits s ≡ true → Rest s [] []
+no-text (p.digits e k) h = record { rest = []; split = refl; whole = w.ends k [] (w.closed e [] w.ends) }
+no-text s h = cc h
+
+any-text : (s : State) (text other u : List ℕ) → is_digits s ≡ false → Rest s text u → Rest s other u
+any-text (p.digits e k) text other u d h = cc d
+any-text s text other u d h = h
+
+large-digits : (a b c : Bool) → (a && not b && c) ≡ true → (a ≡ true) × (b ≡ false) × (c ≡ true)
+large-digits true false true h = (refl, refl, refl)
+large-digits true false false h = cc h
+large-digits true true c h = cc h
+large-digits false b c h = cc h
+
+to-digit : (s : State) (text : List ℕ) (at : ℕ) → LargeIn s text at → (u : List ℕ) × Rest s text (take (at + 1) text ++ u)
+to-digit s _ _ (here _ next b rest e l) =
+    let d = large-digits (is_digits next) (is_digits s) (nat_le (2 ^ 64) (number_at (b ∷ rest))) l in
+    let small : (n : State) → step s b ≡ Some n → is_large s n (b ∷ []) ≡ false = λ n h. and-no (is_digits n) (not (is_digits s)) (nat_le (2 ^ 64) (number_at (b ∷ []))) (one-digit b) in
+    ([], any-text s (b ∷ []) (b ∷ rest) (b ∷ []) d.1 (rest-step s b [] [] small (subst (λ o. RestOf o [] []) (sym e) (no-text next d.0))))
+to-digit s _ _ (later _ next b at rest e l i) =
+    let k = to-digit next rest at i in
+    let small : (n : State) → step s b ≡ Some n → is_large s n (b ∷ rest) ≡ false = λ n h. let same : next ≡ n = cc in subst (λ z. is_large s z (b ∷ rest) ≡ false) same l in
+    let same : suc at + 1 ≡ suc (at + 1) = omega arith in
+    (k.0, subst (λ z. Rest s (b ∷ rest) (take z (b ∷ rest) ++ k.0)) (sym same) (rest-step s b rest (take (at + 1) rest ++ k.0) small (subst (λ o. RestOf o rest (take (at + 1) rest ++ k.0)) (sym e) k.1)))
+
+long : (s : State) (text : List ℕ) (at : ℕ) → LargeIn s text at → nat_le (2 ^ 64) (number_at (drop at text)) ≡ true
+long s _ _ (here _ next b rest e l) = (large-digits (is_digits next) (is_digits s) (nat_le (2 ^ 64) (number_at (b ∷ rest))) l).2
+long s _ _ (later _ next b at rest e l i) = long next rest at i
+
+long-at : (text : List ℕ) (at : ℕ) → at ≤ length text → first_fault p.start text ≡ Some (stop.Number (length text - at)) → IsLongAt text at
+long-at text at h e =
+    let s = large text p.start (length text - at) e in
+    let same : s.at ≡ at = let a = s.split in omega arith in
+    let i : LargeIn p.start text at = subst (LargeIn p.start text) same s.is in
+    record { front = to-digit p.start text at i; long = leb-true (2 ^ 64) (number_at (drop at text)) (long p.start text at i) }
+
+numbered : (text : List ℕ) (at : ℕ) → HasLargeNumber text at → IsLongAt text at ⊎ HasOver text (length text - at)
+numbered text at h = elim h.large [ inl e ↦ inl (long-at text at h.within e) | inr o ↦ inr o ]
+
 pub place : PlaceLaw
-place = record { form = ranges-form; place = goes-on }
+place = record { form = ranges-form; place = goes-on; number = numbered }

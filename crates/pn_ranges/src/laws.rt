@@ -24,7 +24,8 @@ pub fn pre_law()
 {}
 
 /// The place of a wrong byte is the first at which no reading goes on: the bytes before it begin some text of the
-/// grammar, with that byte they begin none, and where the place is the length the text ends too early.
+/// grammar, with that byte they begin none, and where the place is the length the text ends too early. A number that is
+/// too large is named where it stands, or where a limit raises it.
 pub fn place_law()
     ensures { PlaceLaw }
 {}
