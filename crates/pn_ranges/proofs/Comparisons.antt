@@ -1,14 +1,12 @@
 -- Comparators: their grammar, and the automaton over them.
-use Rattle.std.proofs.Common.{◌≡◌, ◌≢◌, ◌≤◌, ◌<◌, ◌+◌, ◌-◌, ℕ, suc, Bool, true, false, List, [], ◌∷◌, ◌++◌, length, take, Option, Some, None, refl, sym, ap, subst, ◌∙◌, arith, inl, inr, append_assoc, append-nil, length-append}
-use Rattle.std.specs.Prelude.{◌==◌, ◌&&◌, ◌||◌, not, if◌then◌else◌}
-use Rattle.std.specs.List.{list_all}
-use Rattle.std.proofs.lemmas.Bool.{cases_Bool}
+use Rattle.std.proofs.Common.{◌≡◌, ℕ, Bool, true, false, List, [], ◌∷◌, ◌++◌, refl, sym, ap, subst, ◌∙◌, append_assoc}
+use Rattle.std.specs.Prelude.{◌==◌, ◌&&◌, not, if◌then◌else◌}
 use Rattle.pn_ranges.specs.declared.comparator.Sign.{Sign}
 use Rattle.pn_ranges.specs.declared.comparator.Sign.TheVariants as x
-use Rattle.pn_ranges.specs.Bytes.{is_space, is_lead, front_of, behind, starts_with}
+use Rattle.pn_ranges.specs.Bytes.{is_space, front_of, behind, starts_with}
 use Rattle.pn_ranges.specs.Grammar.{Begins, IsCompared, IsComparator, IsEnd, IsSign, may_join}
 use Rattle.pn_ranges.specs.Grammar as g
-use Rattle.pn_ranges.specs.Places.{Turn, State, later, lead, operand, first_fault, fault_signed, is_exact, turn_of}
+use Rattle.pn_ranges.specs.Places.{Turn, later, lead, operand, first_fault, fault_signed, is_exact, turn_of}
 use Rattle.pn_ranges.specs.Table.{Named}
 use Rattle.pn_ranges.proofs.Fronts.{front-behind, front-all, behind-same, behind-stops}
 use Rattle.pn_ranges.proofs.Steps.{run}
@@ -24,11 +22,11 @@ pub two-signs : (text rest back : List ℕ) (b c d : ℕ) (s : Sign) → text �
 two-signs text rest back b c d s t h r i = record { front = c ∷ d ∷ []; split = t ∙ ap (λ y. y ∷ rest) h ∙ ap (λ y. c ∷ y) r; spelled = i }
 
 -- what a text doesn't begin with, its front doesn't either
-starts-front : (test : ℕ → Bool) (u rest : List ℕ) → starts_with test (u ++ rest) ≡ false → starts_with test u ≡ false
+pub starts-front : (test : ℕ → Bool) (u rest : List ℕ) → starts_with test (u ++ rest) ≡ false → starts_with test u ≡ false
 starts-front test [] rest h = refl
 starts-front test (b ∷ u) rest h = h
 
-and_first : (m a b : Bool) → (m && a) ≡ false → (a ≡ false → b ≡ false) → (m && b) ≡ false
+pub and_first : (m a b : Bool) → (m && a) ≡ false → (a ≡ false → b ≡ false) → (m && b) ≡ false
 and_first true a b h f = f h
 and_first false a b h f = refl
 

@@ -1,9 +1,8 @@
 -- The front of a text for which a test holds, and numbers.
-use Rattle.std.proofs.Common.{◌≡◌, ◌≤◌, ◌<◌, ◌^◌, ◌*◌, ◌+◌, ◌-◌, ℕ, suc, Bool, true, false, List, [], ◌∷◌, ◌++◌, length, refl, sym, ap, ◌∙◌, arith, inl, inr, cond, length-append}
-use Rattle.std.specs.Prelude.{◌==◌, if◌then◌else◌}
+use Rattle.std.proofs.Common.{◌≡◌, ◌≤◌, ◌<◌, ◌*◌, ◌+◌, ◌-◌, ℕ, Bool, true, false, List, [], ◌∷◌, ◌++◌, length, refl, ap, ◌∙◌, arith, inl, inr, length-append}
 use Rattle.std.specs.List.{list_all}
 use Rattle.std.proofs.lemmas.Bool.{cases_Bool}
-use Rattle.pn_ranges.specs.Bytes.{is_digit, front_of, behind, starts_with, number_at, number_from}
+use Rattle.pn_ranges.specs.Bytes.{is_digit, front_of, behind, starts_with, number_from}
 
 pub front-behind : (test : ℕ → Bool) (text : List ℕ) → text ≡ front_of test text ++ behind test text
 front-behind test [] = refl

@@ -1,21 +1,21 @@
 -- Comparators one after another, and `A - B`.
-use Rattle.std.proofs.Common.{◌≡◌, ◌≢◌, ◌≤◌, ◌<◌, ◌+◌, ◌-◌, ℕ, suc, Bool, true, false, List, [], ◌∷◌, ◌++◌, length, Option, Some, None, Result, Ok, Err, IfErr, refl, sym, ap, subst, ◌∙◌, arith, inl, inr, append_assoc, append-nil, length-append, add_assoc}
+use Rattle.std.proofs.Common.{◌≡◌, ◌≤◌, ◌<◌, ◌+◌, ℕ, Bool, true, false, List, [], ◌∷◌, ◌++◌, length, Option, Some, Result, Ok, Err, IfErr, refl, sym, ap, subst, ◌∙◌, arith, inl, inr, append_assoc, length-append}
 use Rattle.std.proofs.Math.Nat.{add_comm}
-use Rattle.std.specs.Prelude.{◌==◌, ◌&&◌, ◌||◌, ◌⊎◌, not, if◌then◌else◌}
-use Rattle.std.specs.List.{list_all}
+use Rattle.std.specs.Prelude.{◌==◌, ◌&&◌, ◌⊎◌}
 use Rattle.std.specs.Result.{IsErrAnd}
 use Rattle.pn_ranges.specs.declared.comparator.Sign.{Sign}
 use Rattle.pn_ranges.specs.declared.fault.Stop.{Stop}
 use Rattle.pn_ranges.specs.declared.fault.Stop.TheVariants as stop
 use Rattle.pn_ranges.specs.declared.partial.Partial.{Partial}
 use Rattle.pn_ranges.specs.Bytes.{is_space, starts_with}
-use Rattle.pn_ranges.specs.Edges.{IsRaised, LeftWithin, left_at, named_by}
+use Rattle.pn_ranges.specs.Edges.{IsRaised, left_at}
 use Rattle.pn_ranges.specs.Grammar.{AreComparators, AreGaps, AreSpaces, IsComparator, IsRange}
 use Rattle.pn_ranges.specs.Grammar as g
 use Rattle.pn_ranges.specs.Limits.{Limit}
-use Rattle.pn_ranges.specs.Places.{Turn, State, after, turn_of, first, later, start, closed, dash, gap, fault_comparator, first_fault}
-use Rattle.pn_ranges.specs.Reading.{ComparatorsAt, HasOver, HyphenAt, IsOver, LowerAt, RangeAt, SpacedAt, Stops, UpperAt, ends_range, comparator, upper}
-use Rattle.pn_ranges.specs.Table.{Named, all_fit, between, limits, or_any, raised, upper_limits, upper_raised}
+use Rattle.pn_ranges.specs.Places.{after, turn_of, first, later, start, closed, dash, gap, fault_comparator, first_fault}
+use Rattle.pn_ranges.specs.Overs.{HasOver}
+use Rattle.pn_ranges.specs.Reading.{ComparatorsAt, HyphenAt, LowerAt, RangeAt, SpacedAt, Stops, UpperAt, ends_range}
+use Rattle.pn_ranges.specs.Table.{Named, all_fit, between, limits, or_any}
 
 -- the automaton where a comparator comes, and where a range ends
 pub gap-comparator : (h : Bool) (text : List ℕ) → starts_with is_space text ≡ false → ends_range text ≡ false → (h && starts_with (λ b. b == 45) text) ≡ false
@@ -55,8 +55,9 @@ over-wider pre text whole n w h = record {
   over = h.over;
   rest = h.rest;
   split = w ∙ ap (λ y. pre ++ y) h.split ∙ sym (append_assoc pre h.front (h.over ++ h.rest));
+  from = h.from;
   is = h.is;
-  within = let l = ap (λ (y : List ℕ). length y) w ∙ length-append pre text in let m = h.within in omega arith;
+  place = h.place;
 }
 
 pub stops-from : (f f' : Option Stop) (pre text whole : List ℕ) (s : Stop) → f ≡ f' → whole ≡ pre ++ text → Stops f' text s → Stops f whole s
@@ -68,32 +69,12 @@ pub exit_by : {T : Type 0} (f : Option Stop) (text : List ℕ) (r : Result T Sto
 exit_by f text (Ok v) x h stops = tt
 exit_by f text (Err s) x h stops = subst (Stops f text) (sym h) stops
 
-pub over-stops : (f : Option Stop) (text : List ℕ) (ls : List Limit) (k : ℕ) (p : Partial) (s : Stop) → (left_at k p ≤ length text) → (all_fit ls ≡ false → (n : ℕ) → n ≤ length text → HasOver text n)
+pub over-stops : (f : Option Stop) (text : List ℕ) (ls : List Limit) (k : ℕ) (p : Partial) (s : Stop) → (all_fit ls ≡ false → HasOver text (left_at k p))
     → (s ≡ stop.Memory) ⊎ IsRaised ls k p s → Stops f text s
-over-stops f text ls k p s w over h = elim h [
+over-stops f text ls k p s over h = elim h [
   | inl m ↦ subst (Stops f text) (sym m) tt
-  | inr r ↦ subst (Stops f text) (sym r.0) (inr (over r.1 (left_at k p) w))
+  | inr r ↦ subst (Stops f text) (sym r.0) (inr (over r.1))
 ]
-
-pub comparator-over : (text rest : List ℕ) (x : Sign) (n : Named) → SpacedAt text x n rest → all_fit (limits x n) ≡ false → (m : ℕ) → m ≤ length text → HasOver text m
-comparator-over text rest x n a fit m w = record {
-  front = [];
-  over = a.front;
-  rest = a.spaces ++ rest;
-  split = a.split;
-  is = comparator a.front x n a.read fit;
-  within = w;
-}
-
-pub upper-over : (text rest : List ℕ) (n : Named) → UpperAt text n rest → all_fit (upper_limits n) ≡ false → (m : ℕ) → m ≤ length text → HasOver text m
-upper-over text rest n a fit m w = record {
-  front = a.gaps;
-  over = a.front;
-  rest = a.spaces ++ rest;
-  split = a.split;
-  is = upper a.front n a.read fit;
-  within = w;
-}
 
 -- one comparator more
 comps-snoc : (t s u : List ℕ) (k : ℕ) (ls : List Limit) (x : Sign) (n : Named) → AreComparators t k ls → AreGaps s → IsComparator u x n → all_fit (limits x n) ≡ true

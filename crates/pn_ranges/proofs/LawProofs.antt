@@ -1,9 +1,9 @@
 -- The laws of ranges.
-use Rattle.std.proofs.Common.{◌≡◌, ◌≢◌, ◌≤◌, ◌<◌, ◌+◌, ◌-◌, ℕ, zero, suc, Bool, true, false, List, [], ◌∷◌, ◌++◌, length, refl, sym, ap, subst, ◌∙◌, arith, inl, inr}
-use Rattle.std.specs.Prelude.{◌==◌, ◌&&◌, ◌||◌, ◌⊎◌, ◌↔◌, not, if◌then◌else◌, nat_lt, nat_le}
+use Rattle.std.proofs.Common.{◌≡◌, ◌≢◌, ◌≤◌, ◌<◌, ◌+◌, ℕ, Bool, true, false, List, [], ◌∷◌, ◌++◌, length, refl, sym, ap, ◌∙◌, arith, inl, inr}
+use Rattle.std.specs.Prelude.{◌==◌, ◌&&◌, ◌||◌, ◌⊎◌, not}
 use Rattle.std.specs.List.{list_all, list_any}
 use Rattle.std.specs.Ordering.{is_ge, is_lt, nat_cmp, ordering_then}
-use Rattle.std.proofs.lemmas.Bool.{cases_Bool, eqb-true, ltb-true, leb-true}
+use Rattle.std.proofs.lemmas.Bool.{cases_Bool, eqb-true}
 use Rattle.std.proofs.lemmas.Bool.Decides.{nat_tests}
 use Rattle.std.proofs.lemmas.List.{nil_from_length}
 use Rattle.std.specs.declared.cmp.Ordering.TheVariants as order
@@ -13,7 +13,7 @@ use Rattle.semver.specs.declared.Version.{Version}
 use Rattle.pn_ranges.specs.declared.comparator.Sign.TheVariants as sign
 use Rattle.pn_ranges.specs.Limits.{Limit, is_release, meets, meets_all, names_pre, satisfies}
 use Rattle.pn_ranges.specs.Laws.{CaretLaw, HyphenLaw, IsNotBelow, KeepsLeftmost, NamesPre, PreLaw, UnionLaw}
-use Rattle.pn_ranges.specs.Table.{between, full, limits, at_least, before, caret_end}
+use Rattle.pn_ranges.specs.Table.{full, limits, at_least, before, caret_end}
 use Rattle.pn_ranges.proofs.Words.{and_left, and_right}
 
 pub hyphen : HyphenLaw

@@ -8,5 +8,12 @@ pub mod Comparisons
 pub mod Pres
 pub mod Spaced
 pub mod Joins
+pub mod OverProofs
 pub mod Sets
 pub mod LawProofs
+pub mod Accepts
+pub mod Passes
+pub mod Follow
+pub mod FollowParts
+pub mod FollowRanges
+pub mod Stopped

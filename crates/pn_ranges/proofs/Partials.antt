@@ -1,12 +1,10 @@
 -- Partial versions: their grammar, and the automaton over them.
-use Rattle.std.proofs.Common.{◌≡◌, ◌≢◌, ◌≤◌, ◌<◌, ◌+◌, ◌-◌, ℕ, suc, Bool, true, false, List, [], ◌∷◌, ◌++◌, length, take, Option, Some, None, refl, sym, ap, subst, ◌∙◌, arith, inl, inr, append_assoc, append-nil, length-append}
-use Rattle.std.specs.Prelude.{◌==◌, ◌&&◌, ◌||◌, not, if◌then◌else◌}
-use Rattle.std.proofs.lemmas.Bool.{cases_Bool}
-use Rattle.std.proofs.lemmas.Bool.Decides.{nat_tests}
+use Rattle.std.proofs.Common.{◌≡◌, ℕ, false, List, [], ◌∷◌, ◌++◌, Option, None, refl, sym, ap, subst, ◌∙◌, append_assoc}
+use Rattle.std.specs.Prelude.{◌==◌}
 use Rattle.pn_ranges.specs.Bytes.{is_lead, front_of, behind, starts_with}
 use Rattle.pn_ranges.specs.Grammar.{Begins, IsPart, IsPartial, IsTail, IsEnd}
 use Rattle.pn_ranges.specs.Grammar as g
-use Rattle.pn_ranges.specs.Places.{Turn, State, lead, dot, whole, first_fault, fault_after}
+use Rattle.pn_ranges.specs.Places.{Turn, lead, dot, whole, first_fault, fault_after}
 use Rattle.pn_ranges.specs.Table.{Named, named}
 use Rattle.pn_ranges.proofs.Fronts.{front-behind, front-all, behind-stops}
 use Rattle.pn_ranges.proofs.Steps.{after-same, run}

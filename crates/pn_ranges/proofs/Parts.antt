@@ -1,13 +1,11 @@
 -- Parts of versions: their grammar, and the automaton over them.
-use Rattle.std.proofs.Common.{◌≡◌, ◌≢◌, ◌≤◌, ◌<◌, ◌^◌, ◌*◌, ◌+◌, ◌-◌, ℕ, suc, Bool, true, false, List, [], ◌∷◌, ◌++◌, length, Some, None, refl, sym, ap, subst, ◌∙◌, arith, inl, inr, cond}
-use Rattle.std.specs.Prelude.{◌==◌, ◌&&◌, ◌||◌, not, nat_le, if◌then◌else◌}
-use Rattle.std.specs.List.{list_all}
-use Rattle.std.proofs.lemmas.Bool.{cases_Bool}
+use Rattle.std.proofs.Common.{◌≡◌, ◌≤◌, ◌<◌, ◌^◌, ◌*◌, ◌+◌, ◌-◌, ℕ, suc, true, false, List, [], ◌∷◌, ◌++◌, Some, None, refl, sym, ap, subst, ◌∙◌, arith}
+use Rattle.std.specs.Prelude.{◌==◌}
 use Rattle.std.proofs.lemmas.Bool.Decides.{nat_tests}
-use Rattle.pn_ranges.specs.Bytes.{is_wild, is_digit, front_of, behind, starts_with, number_at, number_from}
+use Rattle.pn_ranges.specs.Bytes.{is_wild, is_digit, front_of, behind, number_at, number_from}
 use Rattle.pn_ranges.specs.Grammar.{IsNumber, IsPart, Begins}
 use Rattle.pn_ranges.specs.Grammar as g
-use Rattle.pn_ranges.specs.Places.{Turn, State, dot, whole, digits, step, part_step, is_large, first_fault}
+use Rattle.pn_ranges.specs.Places.{Turn, dot, whole, digits, part_step, is_large, first_fault}
 use Rattle.pn_ranges.proofs.Fronts.{front-behind, front-all, behind-stops, number-front, number-next, number-grows}
 use Rattle.pn_ranges.proofs.Steps.{fault-step, digits-run, digits-whole}
 
@@ -32,7 +30,7 @@ pub wild-part : (text rest : List ℕ) (b : ℕ) → text ≡ b ∷ rest → is_
 wild-part text rest b t w = record { front = b ∷ []; split = t; spelled = g.wild b w }
 
 -- the digits at the front of a text are a number
-front-number : (b : ℕ) (rest : List ℕ) → is_digit b ≡ true → (b == 48) ≡ false → IsNumber (front_of is_digit (b ∷ rest)) (number_at (b ∷ rest))
+pub front-number : (b : ℕ) (rest : List ℕ) → is_digit b ≡ true → (b == 48) ≡ false → IsNumber (front_of is_digit (b ∷ rest)) (number_at (b ∷ rest))
 front-number b rest d z =
     let n : IsNumber (b ∷ front_of is_digit rest) (number_at (b ∷ front_of is_digit rest)) = g.counted b (front_of is_digit rest) d z (front-all is_digit rest) in
     let e : front_of is_digit (b ∷ rest) ≡ b ∷ front_of is_digit rest = rw d refl in

@@ -1,5 +1,5 @@
 -- Pre-releases, which are ASCII and in the form of SemVer.
-use Rattle.std.proofs.Common.{◌≡◌, ◌<◌, ◌≤◌, ℕ, ◌==◌, Bool, true, false, List, [], ◌∷◌, ◌++◌, length, take, Result, Ok, Err, IfOk, IfErr, refl, sym, ap, subst, ◌∙◌, arith, inl, inr}
+use Rattle.std.proofs.Common.{◌≡◌, ℕ, ◌==◌, true, List, length, take, Result, Ok, Err, IfOk, IfErr, sym, subst, arith, inl, inr}
 use Rattle.std.specs.Prelude.{if◌then◌else◌, ◌⊎◌}
 use Rattle.std.specs.Str.{IsAscii, IsUtf8}
 use Rattle.std.proofs.lemmas.Str.{IsUtf8-from_ascii}
@@ -7,7 +7,7 @@ use Rattle.std.proofs.lemmas.Bool.{cases_Bool, eqb-true}
 use Rattle.std.proofs.lemmas.List.{take_all}
 use Rattle.semver.specs.Grammar.{is_pre_release}
 use Rattle.semver.specs.Identifiers.{pre_text}
-use Rattle.semver.specs.Parse.{IsRefused, fail, identifier_len, memory_error, only_identifier}
+use Rattle.semver.specs.Parse.{fail, identifier_len, memory_error, only_identifier}
 use Rattle.semver.specs.declared.error.Error.{Error}
 use Rattle.semver.specs.declared.error.ErrorKind.TheVariants as kind
 use Rattle.semver.specs.declared.error.Position.TheVariants as place

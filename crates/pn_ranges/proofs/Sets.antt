@@ -1,8 +1,7 @@
 -- Sets of ranges.
-use Rattle.std.proofs.Common.{◌≡◌, ◌≢◌, ◌≤◌, ◌<◌, ◌+◌, ◌-◌, ℕ, suc, Bool, true, false, List, [], ◌∷◌, ◌++◌, length, map, Option, Some, None, Result, Ok, Err, IfErr, refl, sym, ap, subst, ◌∙◌, arith, inl, inr, append_assoc, append-nil, length-append, add_assoc, zero-add}
-use Rattle.std.specs.Prelude.{◌==◌, ◌&&◌, ◌||◌, ◌⊎◌, not, if◌then◌else◌}
+use Rattle.std.proofs.Common.{◌≡◌, ◌≤◌, ◌+◌, ◌-◌, ℕ, suc, Bool, true, false, List, [], ◌∷◌, ◌++◌, length, map, Some, None, refl, sym, ap, subst, ◌∙◌, arith, inl, inr, append_assoc, append-nil, zero-add}
+use Rattle.std.specs.Prelude.{◌==◌, ◌||◌, if◌then◌else◌}
 use Rattle.std.specs.List.{list_any}
-use Rattle.std.proofs.lemmas.Bool.{cases_Bool}
 use Rattle.pn_ranges.specs.declared.fault.Stop.{Stop}
 use Rattle.pn_ranges.specs.declared.fault.Stop.TheVariants as stop
 use Rattle.pn_ranges.specs.Bytes.{is_space, behind, front_of, starts_with}
@@ -10,8 +9,10 @@ use Rattle.pn_ranges.specs.Grammar.{AreRanges}
 use Rattle.pn_ranges.specs.Grammar as g
 use Rattle.pn_ranges.specs.Limits.{Limit}
 use Rattle.pn_ranges.specs.Places.{State, bar, closed, start, step, may_end, is_large, on_step, first_fault}
-use Rattle.pn_ranges.specs.Reading.{HasOver, RangeAt, RangesBefore, SpacedRange, Stops, ends_range}
-use Rattle.pn_ranges.specs.Refusals.{HasBadByte, HasLargeNumber, IsLeftOf, RangeRefused, refusal_of}
+use Rattle.pn_ranges.specs.Reading.{RangeAt, RangesBefore, SpacedRange, Stops, ends_range}
+use Rattle.pn_ranges.specs.Overs.{HasOver}
+use Rattle.pn_ranges.proofs.OverProofs.{over-within}
+use Rattle.pn_ranges.specs.Refusals.{IsLeftOf, RangeRefused, refusal_of}
 use Rattle.pn_ranges.proofs.Fronts.{front-behind, front-all, behind-le}
 use Rattle.pn_ranges.proofs.Steps.{run}
 
@@ -121,7 +122,7 @@ fault-left (b ∷ rest) q s h = elim (step q b) as (λ o. on_step o (λ n. if is
 
 pub stops-left : (text : List ℕ) (s : Stop) → Stops (first_fault start text) text s → IsLeftOf (length text) s
 stops-left text (stop.Byte n) h = fault-left text start (stop.Byte n) h
-stops-left text (stop.Number n) h = elim h [ inl f ↦ fault-left text start (stop.Number n) f | inr o ↦ o.within ]
+stops-left text (stop.Number n) h = elim h [ inl f ↦ fault-left text start (stop.Number n) f | inr o ↦ over-within text n o ]
 stops-left text stop.Memory h = tt
 
 back : (n m : ℕ) → n ≤ m → m - (m - n) ≡ n

@@ -1,25 +1,22 @@
 -- Comparators and ends with spaces behind them.
-use Rattle.std.proofs.Common.{◌≡◌, ◌≢◌, ◌≤◌, ◌<◌, ◌+◌, ◌-◌, ℕ, suc, Bool, true, false, List, [], ◌∷◌, ◌++◌, length, Option, Some, None, Result, Ok, Err, IfErr, refl, sym, ap, subst, ◌∙◌, arith, inl, inr, append_assoc, append-nil, length-append}
-use Rattle.std.specs.Prelude.{◌==◌, ◌&&◌, ◌||◌, not, if◌then◌else◌}
+use Rattle.std.proofs.Common.{◌≡◌, ℕ, true, false, List, [], ◌∷◌, ◌++◌, Option, Some, None, Result, Ok, Err, IfErr, refl, sym, ap, ◌∙◌, inl, inr}
 use Rattle.std.specs.List.{list_all}
 use Rattle.std.specs.Result.{IsErrAnd}
 use Rattle.std.proofs.lemmas.Bool.{cases_Bool}
-use Rattle.std.proofs.lemmas.Bool.Decides.{nat_tests}
 use Rattle.semver.specs.Grammar.{is_build_identifier, is_identifier_byte, is_pre_identifier, is_pre_release}
 use Rattle.semver.specs.Order.{parts}
 use Rattle.semver.proofs.Segments.{parts-dot, parts-one}
 use Rattle.pn_ranges.specs.declared.comparator.Sign.{Sign}
 use Rattle.pn_ranges.specs.declared.fault.Stop.{Stop}
-use Rattle.pn_ranges.specs.Bytes.{is_space, is_lead, front_of, behind, starts_with}
-use Rattle.pn_ranges.specs.declared.partial.Partial.{Partial}
-use Rattle.pn_ranges.specs.Edges.{HasPre, LeftWithin}
+use Rattle.pn_ranges.specs.Bytes.{is_space, front_of, behind, starts_with}
+use Rattle.pn_ranges.specs.Edges.{HasPre}
 use Rattle.pn_ranges.specs.Grammar.{AreGaps, AreIdentifiers, AreSpaces, Begins, IsCompared, IsComparator, IsEnd, IsPartial, IsTail}
 use Rattle.pn_ranges.specs.Grammar as g
-use Rattle.pn_ranges.specs.Places.{Turn, State, first, later, upper, after, closed, dash, far, gap, lead, fault_after, first_fault}
+use Rattle.pn_ranges.specs.Places.{Turn, first, later, upper, after, closed, dash, far, gap, lead, fault_after, first_fault}
 use Rattle.pn_ranges.specs.Reading.{LowerAt, SpacedAt, UpperAt, ends_range}
 use Rattle.pn_ranges.specs.Table.{Named, named}
-use Rattle.pn_ranges.proofs.Fronts.{front-behind, front-all, behind-same, behind-stops, behind-next}
-use Rattle.pn_ranges.proofs.Steps.{fault-step, run}
+use Rattle.pn_ranges.proofs.Fronts.{front-behind, front-all, behind-stops, behind-next}
+use Rattle.pn_ranges.proofs.Steps.{run}
 use Rattle.pn_ranges.proofs.Words.{and_left, and_right}
 
 pub exit_stop : {T : Type 0} (f : Option Stop) (r : Result T Stop) (x : Stop) → IsErrAnd r (λ y. y ≡ x) → f ≡ Some x → IfErr r (λ s. f ≡ Some s)
@@ -131,11 +128,3 @@ end-pre _ n (g.end l t _ h p) = partial-pre t n p
 
 pub comparator-pre : (t : List ℕ) (x : Sign) (n : Named) → IsComparator t x n → HasPre n
 comparator-pre _ _ n (g.comparator o s t x _ i b e j) = end-pre t n e
-
--- a longer text, and a shorter rest
-pub within-wider : (p : Partial) (mid text rest back : List ℕ) → LeftWithin p mid rest → length mid ≤ length text → length back ≤ length rest → LeftWithin p text back
-within-wider p mid text rest back w wide less = record {
-  shorter = let s = w.shorter in omega arith;
-  low = λ k. let s = w.low k in omega arith;
-  high = λ k. let s = w.high k in omega arith;
-}

@@ -1,15 +1,13 @@
 -- Steps of the automaton.
-use Rattle.std.proofs.Common.{◌≡◌, ◌≤◌, ◌<◌, ◌^◌, ◌*◌, ◌+◌, ◌-◌, ℕ, suc, Bool, true, false, List, [], ◌∷◌, ◌++◌, length, Option, Some, None, Result, Ok, Err, IfErr, refl, sym, ap, ◌∙◌, arith, inl, inr, cond}
-use Rattle.std.specs.Prelude.{◌==◌, ◌&&◌, ◌||◌, not, nat_le, nat_lt, if◌then◌else◌}
-use Rattle.std.specs.List.{list_all}
+use Rattle.std.proofs.Common.{◌≡◌, ℕ, Bool, true, false, List, [], ◌∷◌, length, Option, Some, Result, Ok, Err, IfErr, refl, sym, ap, ◌∙◌, inl, inr}
+use Rattle.std.specs.Prelude.{◌==◌, ◌&&◌, not, nat_lt, if◌then◌else◌}
 use Rattle.std.specs.Result.{IsErrAnd}
 use Rattle.std.proofs.lemmas.Bool.{cases_Bool}
-use Rattle.std.proofs.lemmas.Bool.Decides.{nat_tests}
 use Rattle.pn_ranges.specs.declared.fault.Stop.{Stop}
 use Rattle.pn_ranges.specs.declared.fault.Stop.TheVariants.{Byte, Number}
-use Rattle.pn_ranges.specs.Bytes.{is_space, is_lead, is_wild, is_digit, behind, starts_with, number_at}
-use Rattle.pn_ranges.specs.Places.{Turn, State, first, later, upper, after, start, gap, closed, bar, dash, far, sign, equal, operand, lead, dot, whole, digits, hyphen, naught, zeros, pre, plus, build, step, part_step, end_step, whole_step, after_step, may_end, is_digits, is_large, on_step, first_fault, fault_after}
-use Rattle.pn_ranges.proofs.Fronts.{behind-next, behind-same, behind-stops}
+use Rattle.pn_ranges.specs.Bytes.{is_space, is_digit, behind, starts_with}
+use Rattle.pn_ranges.specs.Places.{Turn, State, first, later, upper, after, bar, dot, whole, digits, hyphen, plus, step, whole_step, after_step, is_digits, is_large, on_step, first_fault, fault_after}
+use Rattle.pn_ranges.proofs.Fronts.{behind-next, behind-same}
 
 -- one byte on
 pub fault-step : (s next : State) (b : ℕ) (rest : List ℕ) → step s b ≡ Some next → is_large s next (b ∷ rest) ≡ false → first_fault s (b ∷ rest) ≡ first_fault next rest

@@ -1,14 +1,13 @@
 -- Pre-releases and builds: their grammar, and the automaton over them.
-use Rattle.std.proofs.Common.{◌≡◌, ◌≢◌, ◌≤◌, ◌<◌, ◌+◌, ◌-◌, ℕ, suc, Bool, true, false, List, [], ◌∷◌, ◌++◌, length, take, Some, None, refl, sym, ap, subst, ◌∙◌, arith, inl, inr, append_assoc, append-nil, length-append}
-use Rattle.std.specs.Prelude.{◌==◌, ◌&&◌, ◌||◌, not, if◌then◌else◌}
+use Rattle.std.proofs.Common.{◌≡◌, ◌-◌, ℕ, Bool, true, false, List, [], ◌∷◌, ◌++◌, length, take, refl, sym, ap, subst, ◌∙◌, arith, inl, inr, append_assoc, length-append}
+use Rattle.std.specs.Prelude.{◌==◌, ◌&&◌}
 use Rattle.std.proofs.Math.Seq.{take-append_seam}
 use Rattle.std.proofs.lemmas.Bool.{cases_Bool}
-use Rattle.std.proofs.lemmas.Bool.Decides.{nat_tests}
 use Rattle.semver.specs.Grammar.{is_build_identifier, is_identifier_byte, is_pre_identifier}
 use Rattle.pn_ranges.specs.Bytes.{is_word, starts_with}
 use Rattle.pn_ranges.specs.Grammar.{AreIdentifiers, Begins, Fronted, IsBuild, IsTail, Spanned}
 use Rattle.pn_ranges.specs.Grammar as g
-use Rattle.pn_ranges.specs.Places.{Turn, State, whole, hyphen, pre, plus, build, first_fault, fault_after, fault_build}
+use Rattle.pn_ranges.specs.Places.{Turn, whole, hyphen, pre, plus, build, first_fault, fault_after, fault_build}
 use Rattle.pn_ranges.proofs.Steps.{after-same}
 
 identifiers-snoc : (right : List ℕ → Bool) (t x : List ℕ) → AreIdentifiers right t → right x ≡ true → AreIdentifiers right (t ++ 46 ∷ x)

@@ -1,16 +1,15 @@
 -- Identifiers: their grammar, and the automaton over them.
-use Rattle.std.proofs.Common.{◌≡◌, ◌≢◌, ◌≤◌, ◌<◌, ◌^◌, ◌*◌, ◌+◌, ◌-◌, ℕ, suc, Bool, true, false, List, [], ◌∷◌, ◌++◌, length, Some, None, refl, sym, ap, subst, ◌∙◌, arith, inl, inr, cond, append_assoc}
-use Rattle.std.specs.Prelude.{◌==◌, ◌&&◌, ◌||◌, not, nat_le, if◌then◌else◌}
-use Rattle.std.specs.List.{list_all}
+use Rattle.std.proofs.Common.{◌≡◌, ℕ, Bool, true, false, List, [], ◌∷◌, length, Some, refl, sym, ap, subst, ◌∙◌, arith, inl, inr}
+use Rattle.std.specs.Prelude.{◌==◌, ◌&&◌}
 use Rattle.std.specs.Char.{is_ascii_digit}
 use Rattle.std.proofs.lemmas.Bool.{cases_Bool}
 use Rattle.std.proofs.lemmas.Bool.Decides.{nat_tests}
 use Rattle.semver.specs.Grammar.{is_build_identifier, is_identifier_byte, is_pre_identifier, has_leading_zero}
 use Rattle.semver.specs.Order.{is_numeric}
-use Rattle.pn_ranges.specs.declared.fault.Stop.TheVariants.{Byte, Number}
+use Rattle.pn_ranges.specs.declared.fault.Stop.TheVariants.{Byte}
 use Rattle.pn_ranges.specs.Bytes.{is_digit, front_of, behind, starts_with}
-use Rattle.pn_ranges.specs.Grammar.{AreIdentifiers, Spanned, one, more}
-use Rattle.pn_ranges.specs.Places.{Turn, State, hyphen, naught, zeros, pre, plus, build, step, first_fault}
+use Rattle.pn_ranges.specs.Grammar.{Spanned}
+use Rattle.pn_ranges.specs.Places.{Turn, hyphen, naught, zeros, pre, plus, build, first_fault}
 use Rattle.pn_ranges.proofs.Fronts.{front-behind, front-all, behind-stops}
 use Rattle.pn_ranges.proofs.Steps.{run}
 

@@ -1,5 +1,5 @@
 -- The limits of comparators before their versions are made.
-use Rattle.std.specs.Prelude.{◌≡◌, ◌<◌, ◌≤◌, length, ℕ, zero, suc, List, [], ◌∷◌, ◌++◌, Option, Some, None, true, false}
+use Rattle.std.specs.Prelude.{◌≡◌, ℕ, zero, suc, List, [], ◌∷◌, ◌++◌, Option, Some, None, true, false}
 use Rattle.semver.specs.Grammar.{is_pre_release}
 use Rattle.pn_ranges.specs.declared.edge.Edge.{Edge}
 use Rattle.pn_ranges.specs.declared.edge.Edges.{Edges}
@@ -39,12 +39,6 @@ abbrev pub left_at : ℕ → Partial → ℕ
 left_at zero p = p.major_left
 left_at (suc zero) p = p.minor_left
 left_at (suc (suc k)) p = p.patch_left
-
--- the parts of a version lie in a text, in front of the rest
-pub record LeftWithin (p : Partial) (text rest : List ℕ) : Type 0 where
-  pub shorter : length rest < length text
-  pub low : (k : ℕ) → length rest ≤ left_at k p
-  pub high : (k : ℕ) → left_at k p ≤ length text
 
 -- the refusal of limits of which one would have a number of 2^64: the place of the part that it raises
 abbrev pub IsRaised : List Limit → ℕ → Partial → Stop → Type 0

@@ -1,5 +1,5 @@
 -- Laws of ranges in the subject's own words.
-use Rattle.std.specs.Prelude.{◌≡◌, ◌≢◌, ◌↔◌, ◌⊎◌, ◌<◌, ◌≤◌, ℕ, ◌||◌, Bool, true, false, List, [], ◌∷◌, ◌++◌}
+use Rattle.std.specs.Prelude.{◌≡◌, ◌≢◌, ◌↔◌, ◌⊎◌, ◌<◌, ◌≤◌, ℕ, ◌||◌, true, false, List, [], ◌∷◌, ◌++◌}
 use Rattle.semver.specs.declared.Version.{Version}
 use Rattle.pn_ranges.specs.declared.comparator.Sign.TheVariants as sign
 use Rattle.pn_ranges.specs.Limits.{Limit, is_release, meets_all, satisfies}

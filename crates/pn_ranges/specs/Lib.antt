@@ -3,7 +3,10 @@ pub mod Limits
 pub mod Table
 pub mod Edges
 pub mod Grammar
+pub mod Forms
+pub mod Overs
 pub mod Places
 pub mod Reading
 pub mod Refusals
 pub mod Laws
+pub mod PlaceLaw

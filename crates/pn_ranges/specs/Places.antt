@@ -1,5 +1,5 @@
--- Where the reading of a text stops: an automaton that goes from byte to byte. A law says that it stops exactly
--- where no text of the grammar goes on.
+-- Where the reading of a text stops: an automaton that goes from byte to byte. `place_law` says in the words of the
+-- grammar where it stops at a byte.
 use Rattle.std.specs.Prelude.{ℕ, suc, ◌^◌, ◌==◌, ◌&&◌, ◌||◌, not, nat_le, nat_lt, Bool, true, false, List, [], ◌∷◌, length, Option, Some, None, if◌then◌else◌}
 use Rattle.semver.specs.Grammar.{is_identifier_byte}
 use Rattle.pn_ranges.specs.declared.fault.Stop.{Stop}

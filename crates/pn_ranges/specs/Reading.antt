@@ -1,12 +1,13 @@
 -- What the reader has read, and where it stops.
-use Rattle.std.specs.Prelude.{◌≡◌, ◌≤◌, ◌⊎◌, ℕ, ◌+◌, ◌==◌, Bool, true, false, List, [], ◌∷◌, ◌++◌, length, map, Option, Some, None}
+use Rattle.std.specs.Prelude.{◌≡◌, ◌⊎◌, ℕ, ◌+◌, ◌==◌, Bool, true, false, List, [], ◌∷◌, ◌++◌, Option, Some}
 use Rattle.pn_ranges.specs.declared.comparator.Sign.{Sign}
 use Rattle.pn_ranges.specs.declared.fault.Stop.{Stop}
 use Rattle.pn_ranges.specs.declared.fault.Stop.TheVariants as stop
 use Rattle.pn_ranges.specs.Bytes.{is_space, starts_with}
 use Rattle.pn_ranges.specs.Grammar.{AreComparators, AreGaps, AreRanges, AreSpaces, IsComparator, IsEnd, IsRange}
 use Rattle.pn_ranges.specs.Limits.{Limit}
-use Rattle.pn_ranges.specs.Table.{Named, all_fit, between, limits, upper_limits}
+use Rattle.pn_ranges.specs.Overs.{HasOver}
+use Rattle.pn_ranges.specs.Table.{Named, all_fit, between}
 
 -- where a range ends: at the text's end or a `|`
 abbrev pub ends_range : List ℕ → Bool
@@ -74,20 +75,6 @@ pub record SpacedRange (text : List ℕ) (k : ℕ) (ls : List Limit) (rest : Lis
   pub before : AreSpaces lead
   pub read : IsRange front k ls
   pub blank : AreSpaces spaces
-
--- a comparator or an upper end that has a limit with a number of 2^64
-pub data IsOver : List ℕ → Type 0 where
-  comparator : (t : List ℕ) (x : Sign) (n : Named) → IsComparator t x n → all_fit (limits x n) ≡ false → IsOver t
-  upper : (t : List ℕ) (n : Named) → IsEnd t n → all_fit (upper_limits n) ≡ false → IsOver t
-
--- one of them in a text, and a place in it
-pub record HasOver (text : List ℕ) (left : ℕ) : Type 0 where
-  pub front : List ℕ
-  pub over : List ℕ
-  pub rest : List ℕ
-  pub split : text ≡ front ++ (over ++ rest)
-  pub is : IsOver over
-  pub within : left ≤ length text
 
 -- why the reader stops, beside the first fault of the automaton
 abbrev pub Stops : Option Stop → List ℕ → Stop → Type 0

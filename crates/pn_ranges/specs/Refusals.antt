@@ -7,14 +7,14 @@ use Rattle.pn_ranges.specs.declared.fault.Stop.TheVariants as stop
 use Rattle.pn_ranges.specs.Grammar.{AreRanges}
 use Rattle.pn_ranges.specs.Limits.{Limit}
 use Rattle.pn_ranges.specs.Places.{first_fault, start}
-use Rattle.pn_ranges.specs.Reading.{HasOver}
+use Rattle.pn_ranges.specs.Overs.{HasOver}
 
 -- the first byte at which no reading goes on, or the end
 pub record HasBadByte (text : List ℕ) (at : ℕ) : Type 0 where
   pub within : at ≤ length text
   pub first : first_fault start text ≡ Some (stop.Byte (length text - at))
 
--- a number of 2^64 or more, or a limit that would have one
+-- a number of 2^64 or more, or one that a limit raises to it
 pub record HasLargeNumber (text : List ℕ) (at : ℕ) : Type 0 where
   pub within : at ≤ length text
   pub large : (first_fault start text ≡ Some (stop.Number (length text - at))) ⊎ HasOver text (length text - at)

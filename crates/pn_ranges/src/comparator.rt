@@ -1,10 +1,11 @@
 // Comparators: an operator and a partial version.
-ghost use Rattle.std.specs.Prelude.{◌≡◌, ◌==◌, ◌&&◌, not, ℕ, List, IfOk, IfErr, IsTrue, Some, false};
+ghost use Rattle.std.specs.Prelude.{◌≡◌, ◌<◌, ◌==◌, ◌&&◌, not, ℕ, List, length, IfOk, IfErr, IsTrue, Some, false};
 ghost use Rattle.pn_ranges.specs.Bytes.{is_space, starts_with};
-ghost use Rattle.pn_ranges.specs.Edges.{LeftWithin};
+ghost use Rattle.pn_ranges.specs.Edges.{left_at, named_by};
 ghost use Rattle.pn_ranges.specs.Grammar.{Begins, IsCompared, IsEnd, IsSign, may_join};
+ghost use Rattle.pn_ranges.specs.Overs.{HasOver};
 ghost use Rattle.pn_ranges.specs.Places.{Turn, fault_after, fault_comparator, fault_signed, is_exact, turn_of};
-ghost use Rattle.pn_ranges.specs.Table.{named};
+ghost use Rattle.pn_ranges.specs.Table.{all_fit, limits, named, raised};
 
 use crate::fault::Stop;
 use crate::part::{behind_spaces, next, starts_with_space, strip};
@@ -74,7 +75,9 @@ pub(crate) fn comparator_at(text: &[u8]) -> Result<(Comparator<'_>, &[u8]), Stop
     ) r.1.now) }
     ensures lower { IfOk result (λ r. IsTrue r.0.plain → Begins IsEnd text.now
         (named r.0.partial.major r.0.partial.minor r.0.partial.patch r.0.partial.pre.now) r.1.now) }
-    ensures within { IfOk result (λ r. LeftWithin r.0.partial text.now r.1.now) }
+    ensures over { IfOk result (λ r. all_fit (limits r.0.sign (named_by r.0.partial)) ≡ false
+        → HasOver text.now (left_at (raised r.0.sign (named_by r.0.partial)) r.0.partial)) }
+    ensures shorter { IfOk result (λ r. length r.1.now < length text.now) }
     ensures goes { IfOk result (λ r. (e : Turn) → starts_with is_space text.now ≡ false
         → fault_comparator e text.now ≡ fault_after (turn_of r.0.plain e) r.1.now) }
     ensures stops { IfErr result (λ s. (e : Turn) → starts_with is_space text.now ≡ false

@@ -1,5 +1,6 @@
 // Laws of ranges in the subject's own words. The definitions by which `Range` reads and holds obey them.
 ghost use Rattle.pn_ranges.specs.Laws.{CaretLaw, HyphenLaw, PreLaw, UnionLaw};
+ghost use Rattle.pn_ranges.specs.PlaceLaw.{PlaceLaw};
 
 /// A caret of a full version without pre-release holds exactly the releases that aren't below it and whose left-most
 /// number that isn't zero is the same.
@@ -20,4 +21,11 @@ pub fn union_law()
 /// A pre-release is held only where a bound has a pre-release and the same three numbers.
 pub fn pre_law()
     ensures { PreLaw }
+{}
+
+/// The place of a wrong byte is the first at which no reading goes on: the bytes before it begin some text of the
+/// grammar, with that byte they begin none, and where the place is the length the text ends too early. A number that is
+/// too large is named where it stands, or where a limit raises it.
+pub fn place_law()
+    ensures { PlaceLaw }
 {}

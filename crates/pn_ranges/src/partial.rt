@@ -1,7 +1,8 @@
 // Partial versions: one to three parts, of which each may be a wildcard.
-ghost use Rattle.std.specs.Prelude.{◌≡◌, IfOk, IfErr, Some};
-ghost use Rattle.pn_ranges.specs.Edges.{LeftWithin};
+ghost use Rattle.std.specs.Prelude.{◌≡◌, ◌<◌, length, IfOk, IfErr, Some};
+ghost use Rattle.pn_ranges.specs.Edges.{left_at, named_by};
 ghost use Rattle.pn_ranges.specs.Grammar.{Begins, IsEnd, IsPartial};
+ghost use Rattle.pn_ranges.specs.Overs.{PartsAt};
 ghost use Rattle.pn_ranges.specs.Places.{Turn, dot, fault_after, first_fault, lead};
 ghost use Rattle.pn_ranges.specs.Table.{named};
 
@@ -25,7 +26,8 @@ pub struct Partial<'a> {
 fn parts(text: &[u8]) -> Result<(Partial<'_>, &[u8]), Stop>
     ensures read { IfOk result (λ r. Begins IsPartial text.now
         (named r.0.major r.0.minor r.0.patch r.0.pre.now) r.1.now) }
-    ensures within { IfOk result (λ r. LeftWithin r.0 text.now r.1.now) }
+    ensures places { IfOk result (λ r. PartsAt (named_by r.0) (λ k. left_at k r.0) text.now r.1.now) }
+    ensures shorter { IfOk result (λ r. length r.1.now < length text.now) }
     ensures goes { IfOk result (λ r. (e : Turn) → first_fault (dot e 0) text.now
         ≡ fault_after e r.1.now) }
     ensures stops { IfErr result (λ s. (e : Turn) → first_fault (dot e 0) text.now ≡ Some s) }
@@ -61,7 +63,8 @@ fn parts(text: &[u8]) -> Result<(Partial<'_>, &[u8]), Stop>
 pub(crate) fn end(text: &[u8]) -> Result<(Partial<'_>, &[u8]), Stop>
     ensures read { IfOk result (λ r. Begins IsEnd text.now
         (named r.0.major r.0.minor r.0.patch r.0.pre.now) r.1.now) }
-    ensures within { IfOk result (λ r. LeftWithin r.0 text.now r.1.now) }
+    ensures places { IfOk result (λ r. PartsAt (named_by r.0) (λ k. left_at k r.0) text.now r.1.now) }
+    ensures shorter { IfOk result (λ r. length r.1.now < length text.now) }
     ensures goes { IfOk result (λ r. (e : Turn) → first_fault (lead e) text.now
         ≡ fault_after e r.1.now) }
     ensures stops { IfErr result (λ s. (e : Turn) → first_fault (lead e) text.now ≡ Some s) }

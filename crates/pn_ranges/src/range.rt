@@ -1,11 +1,12 @@
 // Ranges: comparators or `A - B`.
 ghost use Rattle.std.specs.Prelude.{◌≡◌, ◌==◌, ◌&&◌, ◌≤◌, ◌<◌, ◌+◌, ◌⊎◌, ℕ, List, [], ◌∷◌, ◌++◌, length, IfOk, IfErr, OnOk, MatchOption, IsTrue, Some, None, true, false};
 ghost use Rattle.pn_ranges.specs.Bytes.{behind, is_space, starts_with};
-ghost use Rattle.pn_ranges.specs.Edges.{HasPre, IsRaised, LeftWithin, named_by};
+ghost use Rattle.pn_ranges.specs.Edges.{HasPre, IsRaised, left_at, named_by};
 ghost use Rattle.pn_ranges.specs.Grammar.{Begins, IsEnd};
+ghost use Rattle.pn_ranges.specs.Overs.{HasOver};
 ghost use Rattle.pn_ranges.specs.Places.{Turn, after, closed, dash, fault_after, fault_comparator, first_fault, gap, start, turn_of, upper};
 ghost use Rattle.pn_ranges.specs.Reading.{ComparatorsAt, HyphenAt, LowerAt, RangeAt, SpacedAt, Stops, UpperAt, ends_range};
-ghost use Rattle.pn_ranges.specs.Table.{all_fit, limits, raised};
+ghost use Rattle.pn_ranges.specs.Table.{all_fit, limits, raised, upper_limits, upper_raised};
 
 use crate::bound::{Bound, push_edges};
 use crate::comparator::{Comparator, Sign, comparator_at};
@@ -46,7 +47,9 @@ fn spaced_at(text: &[u8]) -> Result<(Comparator<'_>, &[u8]), Stop>
     ensures lower { IfOk result (λ r. IsTrue r.0.plain → LowerAt text.now (named_by r.0.partial) r.1.now) }
     ensures pre { IfOk result (λ r. HasPre (named_by r.0.partial)) }
     ensures spaces { IfOk result (λ r. starts_with is_space r.1.now ≡ false) }
-    ensures within { IfOk result (λ r. LeftWithin r.0.partial text.now r.1.now) }
+    ensures over { IfOk result (λ r. all_fit (limits r.0.sign (named_by r.0.partial)) ≡ false
+        → HasOver text.now (left_at (raised r.0.sign (named_by r.0.partial)) r.0.partial)) }
+    ensures shorter { IfOk result (λ r. length r.1.now < length text.now) }
     ensures goes { IfOk result (λ r. (e : Turn) → starts_with is_space text.now ≡ false
         → fault_comparator e text.now ≡ first_fault (after (turn_of r.0.plain e)) r.1.now) }
     ensures stops { IfErr result (λ s. (e : Turn) → starts_with is_space text.now ≡ false
@@ -62,7 +65,8 @@ fn upper_at(text: &[u8]) -> Result<(Partial<'_>, &[u8]), Stop>
     ensures read { IfOk result (λ r. UpperAt text.now (named_by r.0) r.1.now) }
     ensures pre { IfOk result (λ r. HasPre (named_by r.0)) }
     ensures spaces { IfOk result (λ r. starts_with is_space r.1.now ≡ false) }
-    ensures within { IfOk result (λ r. LeftWithin r.0 text.now r.1.now) }
+    ensures over { IfOk result (λ r. all_fit (upper_limits (named_by r.0)) ≡ false
+        → HasOver text.now (left_at (upper_raised (named_by r.0)) r.0)) }
     ensures goes { IfOk result (λ r. first_fault dash text.now ≡ first_fault closed r.1.now) }
     ensures stops { IfErr result (λ s. first_fault dash text.now ≡ Some s) }
 {

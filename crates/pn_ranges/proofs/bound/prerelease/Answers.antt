@@ -1,4 +1,4 @@
-use Rattle.std.proofs.Common.{◌≡◌, List, ℕ, ap, ◌∙◌, sym}
+use Rattle.std.proofs.Common.{◌≡◌}
 use Rattle.pn_ranges.proofs.Pres.{new-ok, new-err, pre-utf8}
 use Rattle.pn_ranges.proofs.bound.prerelease.Goals as goal
 use Rattle.pn_ranges.proofs.bound.prerelease.Goals.{in-Ok, in-Err}

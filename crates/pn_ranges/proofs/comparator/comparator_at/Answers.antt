@@ -1,8 +1,9 @@
-use Rattle.std.proofs.Common.{◌≡◌, ℕ, List, length, arith, ap, sym, ◌∙◌, false}
+use Rattle.std.proofs.Common.{ℕ, List, length, arith, ap, sym, ◌∙◌}
 use Rattle.pn_ranges.specs.Places.{fault_comparator}
 use Rattle.pn_ranges.specs.Bytes.{is_space}
 use Rattle.pn_ranges.proofs.Fronts.{behind-le, append-le}
-use Rattle.pn_ranges.proofs.Spaced.{within-wider}
+use Rattle.pn_ranges.specs.Edges.{left_at, named_by}
+use Rattle.pn_ranges.proofs.OverProofs.{comparator-over}
 use Rattle.pn_ranges.proofs.Steps.{space_exit}
 use Rattle.pn_ranges.proofs.Comparisons.{comparator-read, plain-end, signed-lead}
 use Rattle.pn_ranges.proofs.comparator.comparator_at.Goals as goal
@@ -21,10 +22,15 @@ pub returns-clause-goes : goal.returns-clause-goes
 returns-clause-goes c = λ e h.
     c.sign_at-sign.ensures.goes e h ∙ signed-lead e c.sign_at-sign.result.0 c.sign_at-sign.result.1.now c.behind_spaces.result.now c.is_plain-plain.result c.is_plain-plain.ensures c.behind_spaces.ensures ∙ c.in_ok-partial.ensures.goes _
 
-pub returns-clause-within : goal.returns-clause-within
-returns-clause-within c =
+pub returns-clause-over : goal.returns-clause-over
+returns-clause-over c = λ fit. comparator-over c.args.text.now c.sign_at-sign.result.1.now c.behind_spaces.result.now c.in_ok-partial.rest.now c.sign_at-sign.result.0 (named_by c.in_ok-partial.partial)
+    (λ k. left_at k c.in_ok-partial.partial) c.sign_at-sign.ensures.read c.sign_at-sign.ensures.longest c.behind_spaces.ensures c.in_ok-partial.ensures.places fit
+
+pub returns-clause-shorter : goal.returns-clause-shorter
+returns-clause-shorter c =
     let read = c.sign_at-sign.ensures.read in
     let l = ap (λ (x : List ℕ). length x) c.behind_spaces.ensures in
     let k = behind-le is_space c.sign_at-sign.result.1.now in
     let m = append-le c.args.text.now read.front c.sign_at-sign.result.1.now read.split in
-    within-wider c.in_ok-partial.partial c.behind_spaces.result.now c.args.text.now c.in_ok-partial.rest.now c.in_ok-partial.rest.now c.in_ok-partial.ensures.within (omega arith) (omega arith)
+    let n = c.in_ok-partial.ensures.shorter in
+    omega arith

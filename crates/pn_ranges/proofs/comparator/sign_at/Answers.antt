@@ -1,4 +1,3 @@
-use Rattle.std.proofs.Common.{sym}
 use Rattle.pn_ranges.specs.Grammar as g
 use Rattle.pn_ranges.proofs.Comparisons.{no-sign, one-sign, two-signs}
 use Rattle.pn_ranges.proofs.comparator.sign_at.Goals as goal

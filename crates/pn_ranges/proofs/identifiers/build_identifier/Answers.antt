@@ -1,4 +1,4 @@
-use Rattle.std.proofs.Common.{◌≡◌, sym, ap, ◌∙◌, subst, false}
+use Rattle.std.proofs.Common.{sym, ap, ◌∙◌, subst}
 use Rattle.semver.specs.Grammar.{is_build_identifier, is_identifier_byte}
 use Rattle.pn_ranges.specs.Bytes.{starts_with}
 use Rattle.pn_ranges.specs.Grammar.{Spanned}

@@ -1,7 +1,7 @@
-use Rattle.std.proofs.Common.{◌≡◌, List, ℕ, sym, ap, ◌∙◌, subst, false, true, Some, length}
+use Rattle.std.proofs.Common.{List, ℕ, sym, ap, ◌∙◌, subst, Some, length}
 use Rattle.semver.specs.Grammar.{is_pre_identifier, is_identifier_byte}
 use Rattle.pn_ranges.specs.declared.fault.Stop.TheVariants.{Byte}
-use Rattle.pn_ranges.specs.Bytes.{behind, is_digit, starts_with}
+use Rattle.pn_ranges.specs.Bytes.{behind, starts_with}
 use Rattle.pn_ranges.specs.Grammar.{Spanned}
 use Rattle.pn_ranges.specs.Places.{pre, first_fault}
 use Rattle.pn_ranges.proofs.Fronts.{behind-stops}

@@ -1,8 +1,8 @@
-use Rattle.std.proofs.Common.{◌≡◌, ℕ, List, length, arith, ap, ◌∙◌}
+use Rattle.std.proofs.Common.{ℕ, List, length, arith, ap, ◌∙◌}
 use Rattle.pn_ranges.specs.Places.{lead, first_fault}
 use Rattle.pn_ranges.specs.Bytes.{is_lead}
 use Rattle.pn_ranges.proofs.Fronts.{behind-le}
-use Rattle.pn_ranges.proofs.Spaced.{within-wider}
+use Rattle.pn_ranges.proofs.OverProofs.{led-placed}
 use Rattle.pn_ranges.proofs.Steps.{exit_stops}
 use Rattle.pn_ranges.proofs.Partials.{led-end, lead-end}
 use Rattle.pn_ranges.proofs.partial.end.Goals as goal
@@ -17,8 +17,12 @@ returns-clause-read c = led-end c.args.text.now c.behind_leads-after.result.now 
 pub returns-clause-goes : goal.returns-clause-goes
 returns-clause-goes c = λ e. lead-end e c.args.text.now c.behind_leads-after.result.now c.behind_leads-after.ensures ∙ c.in_ok-read.ensures.goes e
 
-pub returns-clause-within : goal.returns-clause-within
-returns-clause-within c =
+pub returns-clause-places : goal.returns-clause-places
+returns-clause-places c = led-placed c.args.text.now c.behind_leads-after.result.now c.in_ok-read.rest.now _ _ c.behind_leads-after.ensures c.in_ok-read.ensures.places
+
+pub returns-clause-shorter : goal.returns-clause-shorter
+returns-clause-shorter c =
     let l = ap (λ (x : List ℕ). length x) c.behind_leads-after.ensures in
     let k = behind-le is_lead c.args.text.now in
-    within-wider c.in_ok-read.read c.behind_leads-after.result.now c.args.text.now c.in_ok-read.rest.now c.in_ok-read.rest.now c.in_ok-read.ensures.within (omega arith) (omega arith)
+    let m = c.in_ok-read.ensures.shorter in
+    omega arith

@@ -1,4 +1,5 @@
-use Rattle.std.proofs.Common.{◌≡◌, ◌∙◌}
+use Rattle.std.proofs.Common.{refl}
+use Rattle.pn_ranges.proofs.OverProofs.{one-placed, two-placed, three-placed}
 use Rattle.pn_ranges.proofs.Partials.{one-partial, two-partial, three-partial}
 use Rattle.pn_ranges.proofs.partial.parts.Goals as goal
 
@@ -10,3 +11,12 @@ returns-in_default-strip-clause-read c = two-partial _ _ _ _ _ _ _ c.split_at.en
 
 pub returns-clause-read : goal.returns-clause-read
 returns-clause-read c = three-partial _ _ _ _ _ _ _ _ _ _ _ c.in_ok-major.ensures.read c.in-Some.ensures c.in_ok-minor.ensures.read c.in-Some-strip.ensures c.in_ok-patch.ensures.read c.in_ok-pre.ensures.read
+
+pub returns-in_default-clause-places : goal.returns-in_default-clause-places
+returns-in_default-clause-places c = one-placed _ _ _ _ _ c.split_at.ensures.front c.in_ok-major.ensures.read refl
+
+pub returns-in_default-strip-clause-places : goal.returns-in_default-strip-clause-places
+returns-in_default-strip-clause-places c = two-placed _ _ _ _ _ _ _ _ c.split_at.ensures.front c.in_ok-major.ensures.read c.in-Some.ensures c.in_ok-minor.ensures.read refl refl
+
+pub returns-clause-places : goal.returns-clause-places
+returns-clause-places c = three-placed _ _ _ _ _ _ _ _ _ _ _ _ c.in_ok-major.ensures.read c.in-Some.ensures c.in_ok-minor.ensures.read c.in-Some-strip.ensures c.in_ok-patch.ensures.read c.in_ok-pre.ensures.read refl refl refl

@@ -1,4 +1,4 @@
-use Rattle.std.proofs.Common.{◌≡◌, ◌++◌, ◌+◌, ◌≤◌, ℕ, List, length, subst, append_assoc, arith, ap, sym, ◌∙◌, false}
+use Rattle.std.proofs.Common.{◌≡◌, ◌++◌, ◌+◌, subst, append_assoc, arith, ap, sym, ◌∙◌, false}
 use Rattle.pn_ranges.specs.Places.{first_fault, gap}
 use Rattle.pn_ranges.specs.Reading.{ComparatorsAt}
 use Rattle.pn_ranges.proofs.Joins.{exit_by, stops-from}

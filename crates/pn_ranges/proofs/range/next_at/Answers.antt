@@ -1,10 +1,8 @@
-use Rattle.std.proofs.Common.{◌≡◌, ◌++◌, append_assoc, ℕ, List, true, false, length, arith, ap, sym, ◌∙◌, inl, inr, refl}
-use Rattle.std.specs.Prelude.{◌⊎◌, Option}
-use Rattle.pn_ranges.specs.declared.fault.Stop.{Stop}
+use Rattle.std.proofs.Common.{◌++◌, append_assoc, false, sym, ◌∙◌, refl}
 use Rattle.pn_ranges.specs.Edges.{named_by}
 use Rattle.pn_ranges.specs.Places.{first_fault, gap, later}
 use Rattle.pn_ranges.specs.Table.{limits, raised}
-use Rattle.pn_ranges.proofs.Joins.{gap-comparator, stops-fault, exit_by, later-turn, over-stops, comparator-over, next-read}
+use Rattle.pn_ranges.proofs.Joins.{gap-comparator, stops-fault, exit_by, later-turn, over-stops, next-read}
 use Rattle.pn_ranges.proofs.range.next_at.Goals as goal
 
 pub returns-in_err-comparator-clause-stops : goal.returns-in_err-comparator-clause-stops
@@ -16,8 +14,7 @@ returns-in_err-push_comparator-clause-stops c =
     let x = c.in_ok-comparator.comparator.sign in
     let p = c.in_ok-comparator.comparator.partial in
     exit_by (first_fault (gap false) c.args.text.now) c.args.text.now _ _ c.from_residual-in_err-push_comparator.ensures.1
-    (over-stops (first_fault (gap false) c.args.text.now) c.args.text.now (limits x (named_by p)) (raised x (named_by p)) p _ (c.in_ok-comparator.ensures.within.high (raised x (named_by p)))
-    (comparator-over c.args.text.now c.in_ok-comparator.rest.now x (named_by p) c.in_ok-comparator.ensures.read) c.in_err-push_comparator.ensures.err)
+    (over-stops (first_fault (gap false) c.args.text.now) c.args.text.now (limits x (named_by p)) (raised x (named_by p)) p _ c.in_ok-comparator.ensures.over c.in_err-push_comparator.ensures.err)
 
 pub returns-clause-read : goal.returns-clause-read
 returns-clause-read c = λ whole k a.
@@ -26,7 +23,7 @@ returns-clause-read c = λ whole k a.
     next-read whole c.args.text.now c.in_ok-comparator.rest.now k _ _ x (named_by p) a c.requires.some c.in_ok-comparator.ensures.read c.in_ok-push_comparator.ensures.ok c.in_ok-push_comparator.ensures.fit
 
 pub returns-clause-shorter : goal.returns-clause-shorter
-returns-clause-shorter c = c.in_ok-comparator.ensures.within.shorter
+returns-clause-shorter c = c.in_ok-comparator.ensures.shorter
 
 pub returns-clause-goes : goal.returns-clause-goes
 returns-clause-goes c = gap-comparator false c.args.text.now c.requires.spaces c.requires.some refl ∙ c.in_ok-comparator.ensures.goes later c.requires.spaces

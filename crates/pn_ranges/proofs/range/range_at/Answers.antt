@@ -1,8 +1,8 @@
-use Rattle.std.proofs.Common.{◌≡◌, ◌++◌, ◌+◌, ◌∷◌, [], ◌≤◌, ℕ, List, length, subst, append_assoc, arith, ap, sym, ◌∙◌, true, false}
+use Rattle.std.proofs.Common.{◌++◌, ◌∷◌, [], sym, ◌∙◌, false}
 use Rattle.pn_ranges.specs.Edges.{named_by}
 use Rattle.pn_ranges.specs.Places.{dash, first, first_fault, gap, start}
 use Rattle.pn_ranges.specs.Table.{limits, raised}
-use Rattle.pn_ranges.proofs.Joins.{comparator-over, exit_by, first-read, gap-same, hyphen-length, lower-before, memory-stops, over-stops, push-empty, range-comparators, range-empty, range-hyphen, spaced-before, start-closed, start-comparator, start-dash, stops-fault, stops-from, with-first}
+use Rattle.pn_ranges.proofs.Joins.{exit_by, first-read, gap-same, hyphen-length, lower-before, memory-stops, over-stops, push-empty, range-comparators, range-empty, range-hyphen, spaced-before, start-closed, start-comparator, start-dash, stops-fault, stops-from, with-first}
 use Rattle.pn_ranges.proofs.range.range_at.Goals as goal
 
 pub returns-in_err-push_edges-clause-stops : goal.returns-in_err-push_edges-clause-stops
@@ -39,7 +39,7 @@ returns-in-Some-clause-read c =
 
 pub returns-in-Some-clause-few : goal.returns-in-Some-clause-few
 returns-in-Some-clause-few c = hyphen-length c.args.text.now c.in_ok-comparator.rest.now c.in-Some.upper.now c.in_ok-rest.rest.now (named_by c.in_ok-comparator.comparator.partial) _
-    c.in_ok-comparator.ensures.within.shorter c.in-Some.ensures.1 c.in_ok-rest.ensures.read
+    c.in_ok-comparator.ensures.shorter c.in-Some.ensures.1 c.in_ok-rest.ensures.read
 
 pub returns-in-Some-clause-goes : goal.returns-in-Some-clause-goes
 returns-in-Some-clause-goes c =
@@ -51,8 +51,7 @@ returns-in_err-push_comparator-clause-stops c =
     let x = c.in_ok-comparator.comparator.sign in
     let p = c.in_ok-comparator.comparator.partial in
     exit_by (first_fault start c.args.text.now) c.args.text.now _ _ c.from_residual-in_err-push_comparator.ensures.1
-    (over-stops (first_fault start c.args.text.now) c.args.text.now (limits x (named_by p)) (raised x (named_by p)) p _ (c.in_ok-comparator.ensures.within.high (raised x (named_by p)))
-    (comparator-over c.args.text.now c.in_ok-comparator.rest.now x (named_by p) c.in_ok-comparator.ensures.read) c.in_err-push_comparator.ensures.err)
+    (over-stops (first_fault start c.args.text.now) c.args.text.now (limits x (named_by p)) (raised x (named_by p)) p _ c.in_ok-comparator.ensures.over c.in_err-push_comparator.ensures.err)
 
 pub returns-in_err-count-clause-stops : goal.returns-in_err-count-clause-stops
 returns-in_err-count-clause-stops c =

@@ -1,8 +1,8 @@
-use Rattle.std.proofs.Common.{◌≡◌, ℕ, List, length, arith, ap, sym, ◌∙◌}
+use Rattle.std.proofs.Common.{ℕ, List, length, arith, ap}
 use Rattle.pn_ranges.specs.Bytes.{is_space}
 use Rattle.pn_ranges.specs.Edges.{named_by}
 use Rattle.pn_ranges.proofs.Fronts.{behind-le}
-use Rattle.pn_ranges.proofs.Spaced.{spaced-read, lower-read, comparator-pre, stops-behind, within-wider}
+use Rattle.pn_ranges.proofs.Spaced.{spaced-read, lower-read, comparator-pre, stops-behind}
 use Rattle.pn_ranges.proofs.range.spaced_at.Goals as goal
 
 pub returns-clause-read : goal.returns-clause-read
@@ -17,8 +17,9 @@ returns-clause-pre c = comparator-pre _ c.in_ok-comparator.comparator.sign (name
 pub returns-clause-spaces : goal.returns-clause-spaces
 returns-clause-spaces c = stops-behind c.in_ok-comparator.behind.now c.in_ok-rest.rest.now c.in_ok-rest.ensures.spaces
 
-pub returns-clause-within : goal.returns-clause-within
-returns-clause-within c =
+pub returns-clause-shorter : goal.returns-clause-shorter
+returns-clause-shorter c =
     let l = ap (λ (x : List ℕ). length x) c.in_ok-rest.ensures.spaces in
     let k = behind-le is_space c.in_ok-comparator.behind.now in
-    within-wider c.in_ok-comparator.comparator.partial c.args.text.now c.args.text.now c.in_ok-comparator.behind.now c.in_ok-rest.rest.now c.in_ok-comparator.ensures.within (omega arith) (omega arith)
+    let m = c.in_ok-comparator.ensures.shorter in
+    omega arith

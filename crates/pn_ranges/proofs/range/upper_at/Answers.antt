@@ -1,9 +1,8 @@
-use Rattle.std.proofs.Common.{◌≡◌, ℕ, List, length, arith, ap, sym, ◌∙◌}
-use Rattle.pn_ranges.specs.Bytes.{is_space}
-use Rattle.pn_ranges.specs.Edges.{named_by}
+use Rattle.std.proofs.Common.{sym, ◌∙◌}
+use Rattle.pn_ranges.specs.Edges.{left_at, named_by}
 use Rattle.pn_ranges.specs.Places.{dash, first_fault, upper}
-use Rattle.pn_ranges.proofs.Fronts.{behind-le}
-use Rattle.pn_ranges.proofs.Spaced.{dash-lead, end-pre, exit_stop, stops-behind, upper-read, within-wider}
+use Rattle.pn_ranges.proofs.Spaced.{dash-lead, end-pre, exit_stop, stops-behind, upper-read}
+use Rattle.pn_ranges.proofs.OverProofs.{upper-over}
 use Rattle.pn_ranges.proofs.range.upper_at.Goals as goal
 
 pub returns-in_err-high-clause-stops : goal.returns-in_err-high-clause-stops
@@ -23,13 +22,8 @@ returns-clause-pre c = end-pre _ (named_by c.in_ok-high.high) c.in_ok-high.ensur
 pub returns-clause-spaces : goal.returns-clause-spaces
 returns-clause-spaces c = stops-behind c.in_ok-high.behind.now c.in_ok-rest.rest.now c.in_ok-rest.ensures.spaces
 
-pub returns-clause-within : goal.returns-clause-within
-returns-clause-within c =
-    let l = ap (λ (x : List ℕ). length x) c.in_ok-rest.ensures.spaces in
-    let k = behind-le is_space c.in_ok-high.behind.now in
-    let m = ap (λ (x : List ℕ). length x) c.behind_spaces.ensures in
-    let n = behind-le is_space c.args.text.now in
-    within-wider c.in_ok-high.high c.behind_spaces.result.now c.args.text.now c.in_ok-high.behind.now c.in_ok-rest.rest.now c.in_ok-high.ensures.within (omega arith) (omega arith)
+pub returns-clause-over : goal.returns-clause-over
+returns-clause-over c = upper-over c.args.text.now c.behind_spaces.result.now c.in_ok-high.behind.now (named_by c.in_ok-high.high) (λ k. left_at k c.in_ok-high.high) c.behind_spaces.ensures c.in_ok-high.ensures.places
 
 pub returns-clause-goes : goal.returns-clause-goes
 returns-clause-goes c =

@@ -1,4 +1,4 @@
-use Rattle.std.proofs.Common.{◌≡◌, ℕ, List, Vec, Global, map, ap, ◌∙◌, sym}
+use Rattle.std.proofs.Common.{Vec, Global, map, ap, ◌∙◌}
 use Rattle.pn_ranges.specs.declared.bound.Bound.{Bound}
 use Rattle.pn_ranges.specs.Bytes.{front_of, is_space}
 use Rattle.pn_ranges.specs.Places.{first_fault, start}

@@ -1,4 +1,4 @@
-use Rattle.std.proofs.Common.{◌≡◌, ◌≤◌, ◌+◌, ℕ, List, Vec, Global, length, map, ap, arith, ◌∙◌, sym, refl}
+use Rattle.std.proofs.Common.{ℕ, List, Vec, Global, length, map, ap, arith, ◌∙◌, refl}
 use Rattle.pn_ranges.specs.declared.bound.Bound.{Bound}
 use Rattle.pn_ranges.specs.Places.{first_fault, start}
 use Rattle.pn_ranges.proofs.Joins.{exit_by, stops-from}

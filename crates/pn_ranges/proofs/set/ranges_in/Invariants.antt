@@ -1,4 +1,4 @@
-use Rattle.std.proofs.Common.{◌≡◌, ◌≤◌, ◌+◌, List, Vec, Global, length, map}
+use Rattle.std.proofs.Common.{◌≡◌, ◌≤◌, ◌+◌, Vec, Global, length, map}
 use Rattle.pn_ranges.specs.declared.bound.Bound.{Bound}
 use Rattle.pn_ranges.specs.Places.{first_fault, start}
 use Rattle.pn_ranges.specs.Reading.{RangesBefore}

@@ -1,5 +1,4 @@
-use Rattle.std.proofs.Common.{◌≡◌, ◌∙◌}
-use Rattle.pn_ranges.proofs.Tails.{absent-build, some-build, build-after}
+use Rattle.pn_ranges.proofs.Tails.{absent-build, some-build}
 use Rattle.pn_ranges.proofs.tail.behind_build.Goals as goal
 
 pub returns-in_default-clause-read : goal.returns-in_default-clause-read

@@ -1,4 +1,4 @@
-use Rattle.std.proofs.Common.{◌≡◌, ◌∙◌}
+use Rattle.std.proofs.Common.{◌∙◌}
 use Rattle.semver.specs.Grammar.{is_pre_identifier}
 use Rattle.pn_ranges.proofs.Tails.{first_identifier, next_identifier, pre-dot}
 use Rattle.pn_ranges.proofs.tail.behind_pre.Goals as goal

@@ -1,4 +1,4 @@
-use Rattle.std.proofs.Common.{◌≡◌, List, Vec, Global, ap, sym, ◌∙◌}
+use Rattle.std.proofs.Common.{Vec, Global, ap, sym, ◌∙◌}
 use Rattle.std.specs.List.{list_any}
 use Rattle.pn_ranges.specs.declared.bound.Bound.{Bound}
 use Rattle.pn_ranges.specs.Limits.{meets_all, satisfies}
