@@ -10,3 +10,4 @@ pub mod Spaced
 pub mod Joins
 pub mod Sets
 pub mod LawProofs
+pub mod Wildcards
