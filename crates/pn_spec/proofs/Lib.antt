@@ -1,0 +1,4 @@
+pub mod Ends
+pub mod Ats
+pub mod Foreign
+pub mod LawProofs

@@ -1,0 +1,22 @@
+//! The specifiers of dependencies, and the catalogs that some of them name.
+//!
+//! `Spec::read` is exact: it gives what the text says in the first form that fits, or says that none does. Contracts
+//! see a range as its lists of limits, and a name, a tag and a catalog as their bytes.
+#![tactic(auto)]
+
+mod alias;
+mod fault;
+mod laws;
+mod parts;
+mod spec;
+mod tag;
+mod want;
+mod workspace;
+#[cfg(test)]
+mod tests;
+
+pub use fault::SpecFault;
+pub use laws::{foreign_law, form_law, space_law};
+pub use spec::Spec;
+pub use want::Want;
+pub use workspace::{WsSpec, WsWant};
