@@ -2,3 +2,4 @@ pub mod Ends
 pub mod Ats
 pub mod Foreign
 pub mod LawProofs
+pub mod Puts

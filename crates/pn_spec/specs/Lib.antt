@@ -3,4 +3,5 @@ pub mod Tags
 pub mod Ranges
 pub mod Forms
 pub mod Refusals
+pub mod Entries
 pub mod Laws

@@ -1,4 +1,5 @@
 // Laws of specifiers in the subject's own words. The definitions by which `Spec` reads obey them.
+ghost use Rattle.pn_spec.specs.Entries.{PutLaw};
 ghost use Rattle.pn_spec.specs.Laws.{FormLaw, SpaceLaw};
 ghost use Rattle.pn_spec.specs.Ranges.{ForeignLaw};
 
@@ -16,4 +17,9 @@ pub fn space_law()
 /// from a range.
 pub fn foreign_law()
     ensures { ForeignLaw }
+{}
+
+/// Behind a put into catalogs, its catalog and name find what was put, and all others what they found.
+pub fn put_law()
+    ensures { PutLaw }
 {}

@@ -5,6 +5,8 @@
 #![tactic(auto)]
 
 mod alias;
+mod catalogs;
+mod entry;
 mod fault;
 mod laws;
 mod parts;
@@ -15,8 +17,10 @@ mod workspace;
 #[cfg(test)]
 mod tests;
 
+pub use catalogs::Catalogs;
+pub use entry::CatalogEntry;
 pub use fault::SpecFault;
-pub use laws::{foreign_law, form_law, space_law};
+pub use laws::{foreign_law, form_law, put_law, space_law};
 pub use spec::Spec;
 pub use want::Want;
 pub use workspace::{WsSpec, WsWant};
