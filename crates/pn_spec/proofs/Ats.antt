@@ -1,6 +1,6 @@
 -- Texts with an `@`.
 use Rattle.std.proofs.Common.{◌≡◌, ◌≢◌, ◌≤◌, ◌<◌, ◌-◌, ℕ, zero, suc, Bool, true, false, List, [], ◌∷◌, ◌++◌, length, get_or, take, drop, Option, Some, None, refl, sym, ap, ◌∙◌, subst, arith, inl, inr}
-use Rattle.std.specs.Prelude.{◌==◌, ◌&&◌, ◌||◌, ◌⊎◌, IsTrue, Result, Ok, Err, IfErr, MatchOption}
+use Rattle.std.specs.Prelude.{nat_le, ◌==◌, ◌&&◌, ◌||◌, ◌⊎◌, IsTrue, Result, Ok, Err, IfErr, MatchOption}
 use Rattle.std.specs.Borrow.{Bor}
 use Rattle.std.specs.Result.{IsErrAnd}
 use Rattle.std.specs.List.{list_all, list_any}
@@ -105,6 +105,15 @@ plain-no-at (b ∷ t) h = elim (cases_Bool (b == 64)) [
   | inr miss ↦ rw miss (plain-no-at t (and_right (is_name_byte b) (list_all is_name_byte t) h))
 ]
 
+letter-byte : (b : ℕ) → is_letter b ≡ true → is_name_byte b ≡ true
+letter-byte b h = letter-in (nat_le 97 b && nat_le b 122) (nat_le 65 b && nat_le b 90) _ _ _ _ h where
+  letter-in : (x y z u v w : Bool) → (x || y) ≡ true → ((((((x || y) || z) || u) || v) || w)) ≡ true
+  letter-in x y z u v w h = rw h refl
+
+pub tag-no-at : (t : List ℕ) → is_tag t ≡ true → has_at t ≡ false
+tag-no-at [] h = refl
+tag-no-at (b ∷ t) h = plain-no-at (b ∷ t) (rw (letter-byte b (and_left (is_letter b) (list_all is_name_byte t) h), and_right (is_letter b) (list_all is_name_byte t) h) refl)
+
 first-byte : (b : ℕ) → is_first b ≡ true → is_name_byte b ≡ true
 first-byte b h = rw h refl
 
@@ -119,7 +128,7 @@ append-no-at (b ∷ s) t h k = elim (cases_Bool (b == 64)) [
   | inr miss ↦ rw miss (append-no-at s t (sym (rw miss refl) ∙ h) k)
 ]
 
-at-once : (t front rest : List ℕ) → has_at t ≡ false → t ≡ front ++ 64 ∷ rest → ⊥
+pub at-once : (t front rest : List ℕ) → has_at t ≡ false → t ≡ front ++ 64 ∷ rest → ⊥
 at-once t front rest h e = let x : true ≡ false = sym (at-any front rest) ∙ ap has_at (sym e) ∙ h in cc x
 
 -- a name has no `@` but at its front

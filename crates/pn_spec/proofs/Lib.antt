@@ -3,3 +3,4 @@ pub mod Ats
 pub mod Foreign
 pub mod LawProofs
 pub mod Puts
+pub mod Named

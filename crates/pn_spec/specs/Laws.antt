@@ -3,7 +3,9 @@ use Rattle.std.specs.Prelude.{◌≡◌, ◌↔◌, ℕ, List, ◌++◌}
 use Rattle.pn_ranges.specs.Grammar.{AreSpaces}
 use Rattle.pn_spec.specs.declared.spec.Spec.{Spec}
 use Rattle.pn_spec.specs.declared.spec.Spec.TheVariants as spec
-use Rattle.pn_spec.specs.Forms.{IsForm, IsSpec}
+use Rattle.pn_spec.specs.declared.want.Want.{Want}
+use Rattle.pn_spec.specs.declared.workspace.WsSpec.{WsSpec}
+use Rattle.pn_spec.specs.Forms.{IsAlias, IsForm, IsSpec, IsWorkspace}
 
 pub data Form : Type 0 where
   workspace : Form
@@ -22,6 +24,14 @@ form_of (spec.Tag x) = bare
 -- No text is of two forms.
 abbrev pub FormLaw : Type 0
 FormLaw = (t : List ℕ) (x y : Spec) → IsForm t x → IsForm t y → form_of x ≡ form_of y
+
+-- A text names one project, or none.
+abbrev pub ProjectLaw : Type 0
+ProjectLaw = (t : List ℕ) (w v : WsSpec) → IsWorkspace t w → IsWorkspace t v → w.name ≡ v.name
+
+-- A text names one package.
+abbrev pub NameLaw : Type 0
+NameLaw = (t n m : List ℕ) (w v : Want) → IsAlias t n w → IsAlias t m v → n ≡ m
 
 -- Spaces at both ends count for nothing.
 abbrev pub SpaceLaw : Type 0
