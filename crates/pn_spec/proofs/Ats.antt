@@ -1,11 +1,11 @@
 -- Texts with an `@`.
-use Rattle.std.proofs.Common.{◌≡◌, ◌≢◌, ◌≤◌, ◌<◌, ◌-◌, ℕ, zero, suc, Bool, true, false, List, [], ◌∷◌, ◌++◌, length, get_or, take, drop, Option, Some, None, refl, sym, ap, ◌∙◌, subst, arith, inl, inr}
-use Rattle.std.specs.Prelude.{nat_le, ◌==◌, ◌&&◌, ◌||◌, ◌⊎◌, IsTrue, Result, Ok, Err, IfErr, MatchOption}
+use Rattle.std.proofs.Common.{◌≡◌, ◌≢◌, ◌<◌, ℕ, suc, Bool, true, false, List, [], ◌∷◌, ◌++◌, length, get_or, take, Option, Some, None, refl, sym, ap, ◌∙◌, subst, arith, inl, inr}
+use Rattle.std.specs.Prelude.{nat_le, ◌==◌, ◌&&◌, ◌||◌, ◌⊎◌, Result, Ok, Err, IfErr, MatchOption}
 use Rattle.std.specs.Borrow.{Bor}
 use Rattle.std.specs.Result.{IsErrAnd}
-use Rattle.std.specs.List.{list_all, list_any}
+use Rattle.std.specs.List.{list_all}
 use Rattle.std.specs.Str.{NoCharPasses}
-use Rattle.std.specs.Str.Pattern.{HasCharAt, RFindsChar, SplitsAroundMatch}
+use Rattle.std.specs.Str.Pattern.{RFindsChar, SplitsAroundMatch}
 use Rattle.std.proofs.lemmas.Bool.{cases_Bool, eqb-true}
 use Rattle.std.proofs.lemmas.Bool.Decides.{nat_tests}
 use Rattle.std.proofs.lemmas.Str.Pattern.{NoCharPasses-char, drop_at_char}
@@ -14,7 +14,7 @@ use Rattle.pn_text.specs.Name.{IsName, is_first, is_name, is_name_byte, is_name_
 use Rattle.pn_text.specs.Name as name
 use Rattle.pn_ranges.proofs.Words.{and_left, and_right}
 use Rattle.pn_text.proofs.NameTexts.{name_law}
-use Rattle.pn_spec.specs.Ranges.{IsNoRange, has_foreign, is_foreign}
+use Rattle.pn_spec.specs.Ranges.{has_foreign, is_foreign}
 use Rattle.pn_spec.specs.declared.fault.SpecFault.{SpecFault}
 use Rattle.pn_spec.specs.declared.fault.SpecFault.TheVariants.{Unsupported, Memory}
 use Rattle.pn_spec.specs.Refusals.{FitsNoWant, FitsNoWsWant, FitsNoWorkspace, FitsNoAlias, Refuses}

@@ -1,14 +1,14 @@
 -- The laws of specifiers.
-use Rattle.std.proofs.Common.{◌≡◌, ◌≢◌, ℕ, Bool, true, false, List, [], ◌∷◌, ◌++◌, refl, sym, ap, ◌∙◌, subst, inl, inr, append_assoc}
-use Rattle.std.specs.Prelude.{◌==◌, ◌&&◌, ◌||◌, ◌⊎◌, codes}
-use Rattle.std.specs.List.{list_all, list_any}
+use Rattle.std.proofs.Common.{◌≡◌, ℕ, true, false, List, [], ◌∷◌, ◌++◌, refl, sym, ap, ◌∙◌, subst, inl, inr}
+use Rattle.std.specs.Prelude.{◌==◌, ◌⊎◌, codes}
+use Rattle.std.specs.List.{list_all}
 use Rattle.std.proofs.lemmas.Bool.{cases_Bool, eqb-false}
 use Rattle.pn_ranges.specs.Bytes.{behind, is_space}
 use Rattle.pn_ranges.specs.Grammar.{AreSpaces}
 use Rattle.pn_ranges.proofs.Words.{and_left, and_right}
 use Rattle.pn_spec.specs.declared.spec.Spec.{Spec}
 use Rattle.pn_spec.specs.declared.spec.Spec.TheVariants as spec
-use Rattle.pn_spec.specs.Forms.{IsForm, IsSpec}
+use Rattle.pn_spec.specs.Forms.{IsForm}
 use Rattle.pn_spec.specs.Laws.{Form, FormLaw, SpaceLaw, form_of, workspace, catalog, alias, bare}
 use Rattle.pn_spec.specs.Ranges.{has_foreign}
 use Rattle.pn_spec.specs.Tags.{is_tag}

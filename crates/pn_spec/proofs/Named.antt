@@ -1,19 +1,14 @@
 -- A text names one project, and one package.
-use Rattle.std.proofs.Common.{◌≡◌, ◌≢◌, ℕ, Bool, true, false, List, [], ◌∷◌, ◌++◌, Option, Some, None, refl, sym, ap, ◌∙◌, subst, inl, inr}
-use Rattle.std.specs.Prelude.{◌==◌, ◌&&◌, ◌||◌, ◌⊎◌, codes}
-use Rattle.std.specs.List.{list_all, list_any}
-use Rattle.std.proofs.lemmas.Bool.{cases_Bool}
-use Rattle.pn_ranges.proofs.Words.{and_right}
-use Rattle.pn_text.specs.Name.{is_name, is_name_byte}
+use Rattle.std.proofs.Common.{◌≡◌, ◌≢◌, ℕ, Bool, true, false, List, [], ◌∷◌, ◌++◌, Option, Some, None, refl, sym, ap, ◌∙◌, inl, inr}
+use Rattle.std.specs.Prelude.{◌==◌, ◌||◌}
+use Rattle.pn_text.specs.Name.{is_name}
 use Rattle.pn_spec.specs.declared.want.Want.{Want}
 use Rattle.pn_spec.specs.declared.want.Want.TheVariants as want
-use Rattle.pn_spec.specs.declared.workspace.WsSpec.{WsSpec}
 use Rattle.pn_spec.specs.declared.workspace.WsWant.{WsWant}
 use Rattle.pn_spec.specs.declared.workspace.WsWant.TheVariants as ws
-use Rattle.pn_spec.specs.Forms.{IsAlias, IsNamed, IsWant, IsWorkspace, IsWsWant}
+use Rattle.pn_spec.specs.Forms.{IsNamed, IsWant, IsWsWant}
 use Rattle.pn_spec.specs.Laws.{NameLaw, ProjectLaw}
 use Rattle.pn_spec.specs.Ranges.{has_foreign, is_foreign}
-use Rattle.pn_spec.specs.Tags.{is_letter, is_tag}
 use Rattle.pn_spec.specs.Texts.{has_at}
 use Rattle.pn_spec.proofs.Ats.{at-once, last-at, name-not, tag-no-at}
 use Rattle.pn_spec.proofs.Foreign.{foreign}

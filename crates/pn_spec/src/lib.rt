@@ -12,10 +12,10 @@ mod laws;
 mod parts;
 mod spec;
 mod tag;
-mod want;
-mod workspace;
 #[cfg(test)]
 mod tests;
+mod want;
+mod workspace;
 
 pub use catalogs::Catalogs;
 pub use entry::CatalogEntry;

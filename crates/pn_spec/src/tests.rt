@@ -170,23 +170,39 @@ fn found(alloc: Global, all: &Catalogs, catalog: &str, name: &str) -> Result<Str
     }
 }
 
+// A catalog, a name, a text, and whether it is put there.
+const PUT: [(&str, &str, &str, bool); 7] = [
+    ("old", "react", "^17.0.0", true),
+    ("default", "react", "latest", true),
+    ("default", "@s/b", "npm:c@next", true),
+    ("default", "react", "next", true),
+    ("default", "react", "workspace:*", false),
+    ("default", "d", "catalog:old", false),
+    ("default", "d", "file:../d", false),
+];
+
+const FOUND: [(&str, &str, &str); 5] = [
+    ("default", "react", "tag next"),
+    ("default", "@s/b", "c@tag next"),
+    ("old", "react", "range"),
+    ("old", "@s/b", "none"),
+    ("default", "d", "none"),
+];
+
 #[test]
 fn catalogs_find_their_entries(rt: HostRuntime) -> Result<(), Fail> {
     let alloc = rt.alloc();
     let mut all = Catalogs::new(alloc);
-    assert!(rt; put(alloc, &mut all, "old", "react", "^17.0.0")?);
-    assert!(rt; put(alloc, &mut all, "default", "react", "latest")?);
-    assert!(rt; put(alloc, &mut all, "default", "@s/b", "npm:c@next")?);
-    assert!(rt; put(alloc, &mut all, "default", "react", "next")?);
-    assert!(rt; !put(alloc, &mut all, "default", "react", "workspace:*")?);
-    assert!(rt; !put(alloc, &mut all, "default", "d", "catalog:old")?);
-    assert!(rt; !put(alloc, &mut all, "default", "d", "file:../d")?);
-    assert!(rt; found(alloc, &all, "default", "react")?.as_str() == "tag next");
-    assert!(rt; found(alloc, &all, "default", "@s/b")?.as_str() == "c@tag next");
-    assert!(rt; found(alloc, &all, "old", "react")?.as_str() == "range");
-    assert!(rt; found(alloc, &all, "old", "@s/b")?.as_str() == "none");
-    assert!(rt; found(alloc, &all, "default", "d")?.as_str() == "none");
-    let entries = all.as_slice();
-    assert!(rt; entries.len() == 3);
+    for (catalog, name, text, wanted) in PUT {
+        assert!(rt;
+            put(alloc, &mut all, catalog, name, text)? == wanted,
+            "{text}"
+        );
+    }
+    for (catalog, name, wanted) in FOUND {
+        let found = found(alloc, &all, catalog, name)?;
+        assert!(rt; found.as_str() == wanted, "{catalog} {name}");
+    }
+    assert!(rt; all.as_slice().len() == 3);
     Ok(())
 }

@@ -1,5 +1,5 @@
 use Rattle.std.proofs.Common.{◌∙◌, arith}
-use Rattle.pn_spec.proofs.Puts.{put-end, put-equal, put-greater, put-less}
+use Rattle.pn_spec.proofs.Puts.{put-equal, put-greater, put-less}
 use Rattle.pn_spec.proofs.catalogs.place.Goals as goal
 
 pub returns-in-Equal-clause-found : goal.returns-in-Equal-clause-found

@@ -1,4 +1,3 @@
-use Rattle.std.proofs.Common.{refl}
 use Rattle.pn_spec.proofs.Ends.{front-case}
 use Rattle.pn_spec.proofs.parts.behind_space.Goals as goal
 

@@ -1,4 +1,3 @@
-use Rattle.std.proofs.Common.{subst, sym}
 use Rattle.pn_spec.proofs.Ats.{filled, front-empty, no-at, no-part, no-part-front, none-parted, part-at}
 use Rattle.pn_spec.proofs.parts.parted.Goals as goal
 

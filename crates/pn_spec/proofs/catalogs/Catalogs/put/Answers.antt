@@ -1,4 +1,3 @@
-use Rattle.pn_spec.specs.declared.entry.CatalogEntry.{CatalogEntry}
 use Rattle.pn_spec.proofs.Puts.{put-kept}
 use Rattle.pn_spec.proofs.catalogs.Catalogs.put.Goals as goal
 
