@@ -1,10 +1,10 @@
 -- What `*` spells.
-use Rattle.std.proofs.Common.{◌≡◌, ℕ, List, [], ◌∷◌, None, refl, sym, subst, arith}
+use Rattle.std.proofs.Common.{◌≡◌, List, [], ◌∷◌, None, refl, sym, subst, arith}
 use Rattle.pn_ranges.specs.declared.comparator.Sign.TheVariants as sign
 use Rattle.pn_ranges.specs.Grammar.{Spells}
 use Rattle.pn_ranges.specs.Grammar as g
 use Rattle.pn_ranges.specs.Limits.{Limit}
-use Rattle.pn_ranges.specs.Table.{Named, any, limits}
+use Rattle.pn_ranges.specs.Table.{any, limits}
 
 pub wildcard : Spells (42 ∷ []) (limits sign.Exact any ∷ [])
 wildcard = record {

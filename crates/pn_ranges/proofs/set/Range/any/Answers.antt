@@ -1,4 +1,4 @@
-use Rattle.std.proofs.Common.{List, Vec, Global, [], ◌∷◌, ◌++◌, map, ap, ◌∙◌}
+use Rattle.std.proofs.Common.{Vec, Global, [], ◌∷◌, ◌++◌, map, ap, ◌∙◌}
 use Rattle.pn_ranges.specs.declared.bound.Bound.{Bound}
 use Rattle.pn_ranges.specs.Edges.{all_limits_of}
 use Rattle.pn_ranges.proofs.Wildcards.{wildcard-of}
