@@ -2,6 +2,7 @@ pub mod Fronts
 pub mod Steps
 pub mod Parts
 pub mod Words
+pub mod Wildcards
 pub mod Tails
 pub mod Partials
 pub mod Comparisons

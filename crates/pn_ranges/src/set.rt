@@ -1,5 +1,5 @@
 // Range sets: ranges joined by `||`.
-ghost use Rattle.std.specs.Prelude.{◌≡◌, ◌≤◌, ◌+◌, ℕ, List, [], ◌∷◌, ◌++◌, length, map, IfOk, IfErr, OnOk, None, true, false};
+ghost use Rattle.std.specs.Prelude.{◌≡◌, ◌≤◌, ◌+◌, ℕ, List, [], ◌∷◌, ◌++◌, length, map, IfOk, IfErr, OnOk, None, true, false, codes};
 ghost use Rattle.std.specs.List.{list_any};
 ghost use Rattle.pn_ranges.specs.Grammar.{AreRanges, Spells};
 ghost use Rattle.pn_ranges.specs.Limits.{Limit, meets_all, satisfies};
@@ -7,12 +7,14 @@ ghost use Rattle.pn_ranges.specs.Places.{closed, first_fault, start};
 ghost use Rattle.pn_ranges.specs.Reading.{SpacedRange, Stops, ends_range};
 ghost use Rattle.pn_ranges.specs.Refusals.{IsLeftOf, RangeRefused, refusal_of};
 
-use crate::bound::{Bound, meets_all};
+use crate::bound::{Bound, meets_all, push_edges};
+use crate::comparator::Sign;
 use crate::fault::{RangeFault, Stop};
 use crate::part::{behind_spaces, strip};
 use crate::range::range_at;
+use crate::table::any_edges;
 use semver::Version;
-use std::alloc::Global;
+use std::alloc::{AllocError, Global};
 use std::marker::Model;
 
 /// A set of version ranges as npm writes them: lists of bounds, of which a version keeps to one.
@@ -101,6 +103,20 @@ impl Range {
             Ok(_) => Err(RangeFault::TooMany),
             Err(stop) => Err(refusal(text.len(), stop)),
         }
+    }
+
+    /// The range `*`.
+    pub fn any(alloc: Global) -> Result<Range, AllocError>
+        ensures { IfOk result (Spells (codes "*")) }
+    {
+        let mut bounds = Vec::new(alloc);
+        match push_edges(alloc, &mut bounds, &any_edges(Sign::Exact)) {
+            Ok(()) => {}
+            Err(_) => return Err(AllocError),
+        }
+        let mut ranges = Vec::new(alloc);
+        ranges.push(bounds)?;
+        Ok(Range { ranges })
     }
 
     /// Whether a version satisfies the range set. Build metadata counts for nothing.

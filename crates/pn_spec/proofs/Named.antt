@@ -1,0 +1,65 @@
+-- A text names one project, and one package.
+use Rattle.std.proofs.Common.{◌≡◌, ◌≢◌, ℕ, Bool, true, false, List, [], ◌∷◌, ◌++◌, Option, Some, None, refl, sym, ap, ◌∙◌, inl, inr}
+use Rattle.std.specs.Prelude.{◌==◌, ◌||◌}
+use Rattle.pn_text.specs.Name.{is_name}
+use Rattle.pn_spec.specs.declared.want.Want.{Want}
+use Rattle.pn_spec.specs.declared.want.Want.TheVariants as want
+use Rattle.pn_spec.specs.declared.workspace.WsWant.{WsWant}
+use Rattle.pn_spec.specs.declared.workspace.WsWant.TheVariants as ws
+use Rattle.pn_spec.specs.Forms.{IsNamed, IsWant, IsWsWant}
+use Rattle.pn_spec.specs.Laws.{NameLaw, ProjectLaw}
+use Rattle.pn_spec.specs.Ranges.{has_foreign, is_foreign}
+use Rattle.pn_spec.specs.Texts.{has_at}
+use Rattle.pn_spec.proofs.Ats.{at-once, last-at, name-not, tag-no-at}
+use Rattle.pn_spec.proofs.Foreign.{foreign}
+
+or-left : (x y : Bool) → (x || y) ≡ false → x ≡ false
+or-left true y h = h
+or-left false y h = refl
+
+or-right : (x y : Bool) → (x || y) ≡ false → y ≡ false
+or-right true y h = cc h
+or-right false y h = h
+
+own-at : (t : List ℕ) → has_foreign t ≡ false → has_at t ≡ false
+own-at [] h = refl
+own-at (b ∷ t) h = rw (or-left (b == 64) (b == 58) (or-left (is_foreign b) (has_foreign t) h), own-at t (or-right (is_foreign b) (has_foreign t) h)) refl
+
+ws-no-at : (t : List ℕ) (w : WsWant) → IsWsWant t w → has_at t ≡ false
+ws-no-at t ws.Any h = ap has_at h
+ws-no-at t ws.Caret h = ap has_at h
+ws-no-at t ws.Tilde h = ap has_at h
+ws-no-at t (ws.Range r) h = own-at t (foreign t r h.1)
+
+want-no-at : (t : List ℕ) (w : Want) → IsWant t w → has_at t ≡ false
+want-no-at t (want.Range r) h = own-at t (foreign t r h)
+want-no-at t (want.Tag x) h = tag-no-at t h.bytes
+
+-- behind the same `@`
+one-front : (n m s r t : List ℕ) → t ≡ n ++ 64 ∷ s → t ≡ m ++ 64 ∷ r → has_at s ≡ false → has_at r ≡ false → n ≡ m
+one-front n m s r t e f h k = elim (last-at n s m r (sym e ∙ f) h) [
+  | inl same ↦ same.0
+  | inr later ↦ absurd (at-once r later.0 later.1 k later.2)
+]
+
+one-project : (t : List ℕ) (w v : WsWant) (n m : Option (List ℕ)) → IsNamed (λ rest. IsWsWant rest w) t n → IsNamed (λ rest. IsWsWant rest v) t m → n ≡ m
+one-project t w v None None h k = refl
+one-project t w v None (Some m) h k = absurd (at-once t m k.0 (ws-no-at t w h) k.1)
+one-project t w v (Some n) None h k = absurd (at-once t n h.0 (ws-no-at t v k) h.1)
+one-project t w v (Some n) (Some m) h k = ap Some (one-front n m h.0 k.0 t h.1 k.1 (ws-no-at h.0 w h.3) (ws-no-at k.0 v k.3))
+
+pub project : ProjectLaw
+project t w v h k = one-project t w.want v.want w.name v.name h k
+
+named-some : (n : List ℕ) → is_name n ≡ true → n ≢ []
+named-some [] h e = cc h
+named-some (b ∷ n) h e = cc e
+
+bare-front : (t n m r : List ℕ) → t ≡ n → is_name n ≡ true → t ≡ m ++ 64 ∷ r → is_name m ≡ true → ⊥
+bare-front t n m r e h f k = let off : true ≡ false = sym h ∙ ap is_name (sym e) ∙ name-not t m r f (named-some m k) in cc off
+
+pub name : NameLaw
+name t n m w v (inl h) (inl k) = sym h.0 ∙ k.0
+name t n m w v (inl h) (inr k) = absurd (bare-front t n m k.0 h.0 h.1 k.1 k.2)
+name t n m w v (inr h) (inl k) = absurd (bare-front t m n h.0 k.0 k.1 h.1 h.2)
+name t n m w v (inr h) (inr k) = one-front n m h.0 k.0 t h.1 k.1 (want-no-at h.0 w h.3) (want-no-at k.0 v k.3)

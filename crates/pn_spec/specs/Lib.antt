@@ -1,0 +1,7 @@
+pub mod Texts
+pub mod Tags
+pub mod Ranges
+pub mod Forms
+pub mod Refusals
+pub mod Entries
+pub mod Laws
