@@ -1,3 +1,4 @@
 pub mod Digests
 pub mod Hashing
 pub mod Listing
+pub mod ListingFaults

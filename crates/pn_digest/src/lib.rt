@@ -5,10 +5,12 @@
 #![tactic(auto)]
 
 mod digest;
+mod fault;
 mod hasher;
 mod integrity;
 
 pub use digest::Digest;
+pub use fault::ListingFault;
 pub use hasher::Hasher512;
 pub use integrity::{Integrity, integrity_law};
 
