@@ -1,1 +1,5 @@
+pub mod Elements
+pub mod FolderSets
+pub mod Fronts
 pub mod IntegrityTexts
+pub mod RelPaths

@@ -6,6 +6,8 @@
 
 mod digest;
 mod fault;
+mod files;
+mod folders;
 mod hasher;
 mod integrity;
 
