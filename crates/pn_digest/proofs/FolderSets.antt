@@ -3,22 +3,17 @@ use Rattle.std.proofs.Common.{◌≡◌, ℕ, ◌+◌, ◌<◌, List, [], ◌∷
 use Rattle.std.specs.Prelude.{◌⊎◌, ◌↔◌, IsTrue}
 use Rattle.std.specs.List.{Contains}
 use Rattle.pn_digest.specs.Listing.{Entry, IsRelPath, rel_text}
-use Rattle.pn_digest.specs.Folders.{IsFolderText, IsAbove}
+use Rattle.pn_digest.specs.Folders.{IsFolderText, HasFolders}
 use Rattle.pn_digest.proofs.Elements.{none_in, in_front_more, still_in_front, now_in_front}
 
--- what a set has, as a function, behind some of the files
-pub record HasAbove (files : List Entry) (has : List ℕ → Bool) : Type 0 where
-  pub paths : (e : Entry) → Contains files e → IsRelPath e.0
-  pub exact : (t : List ℕ) → IsTrue (has t) ↔ IsAbove files t
-
-pub has_none : (has : List ℕ → Bool) → ((t : List ℕ) → has t ≡ false) → HasAbove [] has
+pub has_none : (has : List ℕ → Bool) → ((t : List ℕ) → has t ≡ false) → HasFolders [] has
 has_none has none = record {
   paths = λ e i. absurd (none_in e i);
   exact = λ t. (λ h. let f : true ≡ false = sym h ∙ none t in cc, λ a. absurd (none_in a.0 a.1));
 }
 
-pub has_more : (files : List Entry) (i : ℕ) (x : Entry) (old new : List ℕ → Bool) → i < length files → x ≡ get_or files i x → IsRelPath x.0 → HasAbove (take i files) old
-    → ((t : List ℕ) → IsTrue (new t) ↔ (IsTrue (old t) ⊎ IsFolderText (rel_text x.0) t)) → HasAbove (take (i + 1) files) new
+pub has_more : (files : List Entry) (i : ℕ) (x : Entry) (old new : List ℕ → Bool) → i < length files → x ≡ get_or files i x → IsRelPath x.0 → HasFolders (take i files) old
+    → ((t : List ℕ) → IsTrue (new t) ↔ (IsTrue (old t) ⊎ IsFolderText (rel_text x.0) t)) → HasFolders (take (i + 1) files) new
 has_more files i x old new within is path has adds = record {
   paths = λ e h. elim (in_front_more files i x e within is h) [ inl a ↦ has.paths e a | inr s ↦ subst (λ (z : Entry). IsRelPath z.0) s path ];
   exact = λ t. (

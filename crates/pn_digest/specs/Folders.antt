@@ -1,7 +1,6 @@
 -- The folders above files.
-use Rattle.std.specs.Prelude.{◌≡◌, ◌↔◌, ℕ, List, ◌∷◌, ◌++◌, IsTrue, String}
+use Rattle.std.specs.Prelude.{◌≡◌, ◌↔◌, ℕ, Bool, List, ◌∷◌, ◌++◌, IsTrue}
 use Rattle.std.specs.List.{Contains}
-use Rattle.std.specs.BTreeSet.{BTreeSet, contains_text}
 use Rattle.pn_digest.specs.Listing.{Entry, IsRelPath, rel_text}
 
 -- the path with this text goes on from a folder with that text
@@ -12,7 +11,7 @@ IsFolderText path folder = (rest : List ℕ) × (path ≡ folder ++ 47 ∷ rest)
 abbrev pub IsAbove : List Entry → List ℕ → Type 0
 IsAbove files folder = (e : Entry) × Contains files e × IsFolderText (rel_text e.0) folder
 
--- The set has the texts of the folders above the files, and no others.
-pub record HasFolders {A : Type 0} (files : List Entry) (folders : BTreeSet (String A)) : Type 0 where
+-- A set has the texts of the folders above the files, and no others.
+pub record HasFolders (files : List Entry) (has : List ℕ → Bool) : Type 0 where
   pub paths : (e : Entry) → Contains files e → IsRelPath e.0
-  pub exact : (t : List ℕ) → IsTrue (contains_text folders t) ↔ IsAbove files t
+  pub exact : (t : List ℕ) → IsTrue (has t) ↔ IsAbove files t

@@ -12,7 +12,7 @@ use std::collections::BTreeSet;
 
 /// The paths of all the folders above these files.
 pub fn folders(alloc: Global, files: &[(RelPath, Digest)]) -> Result<BTreeSet<String>, Memory>
-    ensures { IfOk result (HasFolders files.now) }
+    ensures { IfOk result (λ folders. HasFolders files.now (contains_text folders)) }
 {
     let mut folders = BTreeSet::new(alloc);
     for file in files {
