@@ -7,7 +7,7 @@ use Rattle.std.proofs.lemmas.List.Folds.{list_any-append, list_any_more}
 use Rattle.std.proofs.lemmas.List.Elements.{Contains-push_cases}
 use Rattle.hex.specs.Hex.{encode_lower}
 use Rattle.pn_digest.specs.Listing.{Entry, IsEntry, rel_text, has_feed, line_text, listing_text, ListingLaw}
-use Rattle.pn_digest.specs.Lines.{AreEntries, AreFileLines, BeginsWithFile, TakesFile, IsCut}
+use Rattle.pn_digest.specs.Lines.{AreEntries, AreFileLines, BeginsWithFile, TakesFile, IsCut, IsFileLine}
 use Rattle.pn_digest.proofs.Elements.{none_in, here, there}
 use Rattle.pn_digest.proofs.HexTexts.{length-hex, one_hex, no_feed_hex, both_false, left_false, right_false}
 use Rattle.pn_digest.proofs.RelPaths.{same_rel}
@@ -122,3 +122,11 @@ reading_more bytes rest rest' old new r t = record {
 
 pub lines_left : (bytes rest : List ℕ) (files : List Entry) → IsReading bytes rest files → 0 < length rest → AreFileLines bytes → BeginsWithFile rest
 lines_left bytes rest files r some lines = begins_with_one rest some (lines_behind files lines.0 rest r.entries lines.1 (sym r.whole ∙ lines.2))
+
+-- the first line is the only one that the bytes may begin with
+pub line_of_file : (bytes line rest : List ℕ) → IsCut bytes line rest → BeginsWithFile bytes → IsFileLine line
+line_of_file bytes line rest cut b = (
+  b.0,
+  b.2,
+  (cut_same line (line_text b.0) rest b.1 cut.flat (no_feed_line b.0 b.2) (sym cut.whole ∙ b.3)).0,
+)
