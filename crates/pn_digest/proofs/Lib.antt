@@ -6,7 +6,9 @@ pub mod HexTexts
 pub mod IntegrityTexts
 pub mod LineParts
 pub mod LineTexts
+pub mod OneText
 pub mod PathTexts
 pub mod RelPaths
 pub mod Rising
+pub mod Sound
 pub mod Twice

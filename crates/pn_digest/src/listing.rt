@@ -48,9 +48,7 @@ impl Listing {
         if let Some(at) = first_twice(alloc, files.as_slice())? {
             return Err(ListingFault::Twice(at));
         }
-        Ok(Listing {
-            files: in_order(files)?,
-        })
+        Ok(listed(in_order(files)?))
     }
 
     /// Reads a text: `NotListing` exactly where it is no listing's.
@@ -67,7 +65,7 @@ impl Listing {
         if first_bad(files.as_slice(), &folders).is_some() {
             return Err(ListingFault::NotListing);
         }
-        Ok(Listing { files })
+        Ok(listed(files))
     }
 
     /// The text, which `read` gives back: a line a file.
@@ -107,6 +105,14 @@ impl Listing {
 pub fn listing_law()
     ensures { ListingLaw }
 {}
+
+fn listed(files: Vec<(RelPath, Digest)>) -> Listing
+    requires { IsListing files.items }
+    ensures files { result ≡ files.items }
+    ensures listing { IsListing result }
+{
+    Listing { files }
+}
 
 fn print_files(alloc: Global, files: &[(RelPath, Digest)]) -> Result<Vec<u8>, Memory>
     ensures { IfOk result (λ text. text.items ≡ listing_text files.now) }
