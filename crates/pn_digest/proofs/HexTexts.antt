@@ -1,7 +1,6 @@
 -- Digests and their hex digits.
-use Rattle.std.proofs.Common.{◌≡◌, ◌↔◌, ℕ, ◌*◌, ◌/◌, ◌%◌, List, [], ◌∷◌, length, None, Some, Result, Ok, Err, refl, sym, subst, ap, ◌∙◌, arith, Bool, true, false}
+use Rattle.std.proofs.Common.{◌≡◌, ◌↔◌, ℕ, ◌/◌, ◌%◌, List, [], ◌∷◌, length, None, Some, Result, Ok, refl, sym, subst, ap, ◌∙◌, arith, Bool, true, false}
 use Rattle.std.specs.Prelude.{MatchResult, is_err, ◌==◌, ◌||◌, slice_index, zero, suc}
-use Rattle.std.specs.List.{list_any}
 use Rattle.hex.specs.Hex.{encode_lower, encode_with, lower_digits, decode_sized, decode_pairs}
 use Rattle.hex.specs.declared.error.FromHexError.{FromHexError}
 use Rattle.hex.proofs.HexLemmas.{length-encode_with, decode_pairs-encode_with, IsDigits-lower_digits}

@@ -1,11 +1,11 @@
 -- The parts of a file's line.
-use Rattle.std.proofs.Common.{◌≡◌, ℕ, List, ◌∷◌, ◌++◌, length, refl, sym, ap, ◌∙◌, subst, None, Some, false, true}
-use Rattle.std.specs.Prelude.{Option, ◌↔◌}
+use Rattle.std.proofs.Common.{◌≡◌, ℕ, List, ◌∷◌, ◌++◌, sym, ap, ◌∙◌, None, Some, false}
+use Rattle.std.specs.Prelude.{◌↔◌}
 use Rattle.hex.specs.Hex.{encode_lower}
 use Rattle.pn_digest.specs.Digests.{IsDigest}
-use Rattle.pn_digest.specs.Listing.{Entry, IsEntry, IsRelPath, rel_text, has_feed, line_text}
+use Rattle.pn_digest.specs.Listing.{IsEntry, IsRelPath, rel_text, has_feed, line_text}
 use Rattle.pn_digest.specs.Lines.{HasParts, IsFileLine, IsPathText}
-use Rattle.pn_digest.proofs.HexTexts.{length-hex, right_false}
+use Rattle.pn_digest.proofs.HexTexts.{length-hex}
 use Rattle.pn_digest.proofs.LineTexts.{parts_same, feed_behind}
 
 tail_same : (x y : ℕ) (xs ys : List ℕ) → x ∷ xs ≡ y ∷ ys → xs ≡ ys

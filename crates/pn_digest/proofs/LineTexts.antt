@@ -1,15 +1,14 @@
 -- Lines of files, and how texts fall into them.
-use Rattle.std.proofs.Common.{◌≡◌, ℕ, ◌+◌, ◌<◌, ◌≤◌, List, [], ◌∷◌, ◌++◌, length, take, drop, get_or, refl, sym, ap, ◌∙◌, subst, append_assoc, append-nil, arith, Bool, true, false, inl, inr}
-use Rattle.std.specs.Prelude.{◌||◌, ◌==◌}
-use Rattle.std.specs.List.{list_any, Contains}
-use Rattle.std.proofs.lemmas.List.{drop_more, take-append-drop, take_more, take_all}
-use Rattle.std.proofs.lemmas.List.Folds.{list_any-append, list_any_more}
+use Rattle.std.proofs.Common.{◌≡◌, ℕ, ◌<◌, List, [], ◌∷◌, ◌++◌, length, refl, sym, ap, ◌∙◌, subst, append_assoc, arith, true, false, inl, inr}
+use Rattle.std.specs.Prelude.{◌==◌}
+use Rattle.std.specs.List.{Contains}
+use Rattle.std.proofs.lemmas.List.Folds.{list_any-append}
 use Rattle.std.proofs.lemmas.List.Elements.{Contains-push_cases}
 use Rattle.hex.specs.Hex.{encode_lower}
 use Rattle.pn_digest.specs.Listing.{Entry, IsEntry, rel_text, has_feed, line_text, listing_text, ListingLaw}
 use Rattle.pn_digest.specs.Lines.{AreEntries, AreFileLines, BeginsWithFile, TakesFile, IsCut, IsFileLine}
 use Rattle.pn_digest.proofs.Elements.{none_in, here, there}
-use Rattle.pn_digest.proofs.HexTexts.{length-hex, one_hex, no_feed_hex, both_false, left_false, right_false}
+use Rattle.pn_digest.proofs.HexTexts.{length-hex, one_hex, no_feed_hex, both_false, right_false}
 use Rattle.pn_digest.proofs.RelPaths.{same_rel}
 
 head_same : (x y : ℕ) (xs ys : List ℕ) → x ∷ xs ≡ y ∷ ys → x ≡ y

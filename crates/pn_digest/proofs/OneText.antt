@@ -1,5 +1,5 @@
 -- What is read from a listing's text is that listing.
-use Rattle.std.proofs.Common.{◌≡◌, ℕ, List, refl, sym, ◌∙◌, subst, Bool, true, false}
+use Rattle.std.proofs.Common.{◌≡◌, ℕ, List, refl, sym, ◌∙◌, subst, true, false}
 use Rattle.std.specs.Prelude.{Option, Some, None, MatchOption, is_some}
 use Rattle.pn_digest.specs.Listing.{Entry, IsListing, IsListingText, listing_text}
 use Rattle.pn_digest.specs.Lines.{AreEntries, AreFileLines}

@@ -1,8 +1,7 @@
 -- Bytes that are no path's text.
-use Rattle.std.proofs.Common.{◌≡◌, ℕ, ◌<◌, ◌≤◌, List, [], ◌∷◌, ◌++◌, length, refl, sym, ap, ◌∙◌, subst, arith, true, false}
-use Rattle.std.specs.Prelude.{IsTrue, IsUtf8, ◌==◌}
+use Rattle.std.proofs.Common.{◌≡◌, ℕ, ◌≤◌, List, [], ◌∷◌, ◌++◌, length, refl, sym, ap, ◌∙◌, subst, arith, true, false}
+use Rattle.std.specs.Prelude.{IsUtf8, ◌==◌}
 use Rattle.std.specs.List.{list_any}
-use Rattle.std.specs.Str.{is_utf8}
 use Rattle.std.proofs.lemmas.Str.{IsUtf8-from_is_utf8}
 use Rattle.pn_text.specs.Path.{Path, is_path, is_part, is_flat, is_filled, text_below, parts_from, IsPartsEnd, SpellsParts, HasBadPart}
 use Rattle.pn_text.specs.Faults.{RelFault}
@@ -10,7 +9,7 @@ use Rattle.pn_text.specs.declared.fault.PathFault.{PathFault}
 use Rattle.pn_text.specs.declared.fault.PathFault.TheVariants.{NotAbsolute, BadPart, Long, Memory}
 use Rattle.pn_text.proofs.Paths.{and_left, and_right, not_true, parts_from-append, parts_from-flat, parts_from-text_below}
 use Rattle.pn_text.proofs.Splits.{parts_from-below}
-use Rattle.pn_digest.specs.Listing.{rel_text, IsRelPath}
+use Rattle.pn_digest.specs.Listing.{rel_text}
 use Rattle.pn_digest.specs.Lines.{IsPathText, line_fault}
 use Rattle.pn_digest.specs.ListingFaults.{UnlessSo}
 use Rattle.pn_digest.specs.declared.fault.ListingFault.{ListingFault}

@@ -1,9 +1,7 @@
 -- Files that make a listing, and files that make none.
-use Rattle.std.proofs.Common.{◌≡◌, ℕ, ◌+◌, ◌<◌, List, [], ◌∷◌, ◌++◌, length, get_or, refl, sym, ap, ◌∙◌, subst, arith, Bool, true, false, inl, inr, Some}
+use Rattle.std.proofs.Common.{◌≡◌, ℕ, List, [], ◌∷◌, ◌++◌, refl, sym, ap, arith, Bool, true, false, inl, inr, Some}
 use Rattle.std.specs.Prelude.{slice_get, zero, suc}
-use Rattle.std.specs.Bool.{MatchBool}
 use Rattle.std.specs.Ordering.{is_lt}
-use Rattle.std.specs.Str.{bytes_eq}
 use Rattle.std.specs.Cmp.Lexicographic.{nat_list_eq_equiv}
 use Rattle.std.specs.List.{Contains, AllByRecursion, IsDistinct}
 use Rattle.std.specs.List.Sorted.{IsPermutation, IsSortedBy}
@@ -13,7 +11,7 @@ use Rattle.std.proofs.lemmas.Option.{get_or_from_slice_get}
 use Rattle.std.proofs.lemmas.Slice.Eq.{bytes_eq-Decides}
 use Rattle.pn_text.specs.Path.{Path}
 use Rattle.pn_digest.specs.Listing.{Entry, IsEntry, IsListing, IsRising, AreApart, IsRelPath, rel_text, has_feed}
-use Rattle.pn_digest.specs.ListingFaults.{IsBadAt, IsTwiceAt, IsFirst, IsNowhere, HasBelow}
+use Rattle.pn_digest.specs.ListingFaults.{IsBadAt, IsTwiceAt, IsNowhere}
 use Rattle.pn_digest.proofs.Bad.{opposite}
 use Rattle.pn_digest.proofs.Elements.{here, there, at_place, within_at}
 use Rattle.pn_digest.proofs.RelPaths.{same_rel}
@@ -68,9 +66,9 @@ unfolding IsDistinct
 distinct [] good none = tt
 distinct (x ∷ xs) good none = (
   all_in (λ y. same_text x y ≡ false) xs (λ y i. not_same (same_text x y) (λ e.
-    let k = place_of xs y i in
-    let same : x.0 ≡ y.0 = same_rel x.0 y.0 (good x (here x xs)) (good y (there x xs y i)) ((bytes_eq-Decides (rel_text x.0) (rel_text y.0)).0 e) in
-    none (suc k.0) (twice_first x y xs k.0 same k.1))),
+      let k = place_of xs y i in
+      let same : x.0 ≡ y.0 = same_rel x.0 y.0 (good x (here x xs)) (good y (there x xs y i)) ((bytes_eq-Decides (rel_text x.0) (rel_text y.0)).0 e) in
+      none (suc k.0) (twice_first x y xs k.0 same k.1))),
   distinct xs (λ e i. good e (there x xs e i)) (λ k t. none (suc k) (twice_later x xs k t)),
 )
 

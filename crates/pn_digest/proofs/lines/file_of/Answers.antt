@@ -1,6 +1,6 @@
 use Rattle.pn_digest.specs.Lines.{IsFileLine, IsPathText}
 use Rattle.std.proofs.lemmas.Result.{err_from_is_err_and}
-use Rattle.pn_digest.proofs.LineParts.{no_parts, no_digits, its_path, line_is, entry_is}
+use Rattle.pn_digest.proofs.LineParts.{no_parts, no_digits, its_path}
 use Rattle.pn_digest.proofs.PathTexts.{unless_from}
 use Rattle.pn_digest.proofs.lines.file_of.Goals as goal
 

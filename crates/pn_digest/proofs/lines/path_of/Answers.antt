@@ -1,5 +1,3 @@
-use Rattle.std.proofs.Common.{sym, ◌∙◌, ap, subst}
-use Rattle.std.specs.Prelude.{IsUtf8}
 use Rattle.pn_digest.proofs.PathTexts.{not_utf8, refused_path}
 use Rattle.pn_digest.proofs.RelPaths.{is_rel}
 use Rattle.pn_digest.proofs.lines.path_of.Goals as goal

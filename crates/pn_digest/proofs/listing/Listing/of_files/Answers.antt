@@ -1,6 +1,6 @@
 use Rattle.std.proofs.Common.{◌≡◌, List, refl, subst}
 use Rattle.std.specs.List.{Contains}
-use Rattle.pn_digest.specs.Listing.{Entry, IsEntry, IsListing}
+use Rattle.pn_digest.specs.Listing.{Entry, IsEntry}
 use Rattle.pn_digest.specs.ListingFaults.{IsBadAt, IsTwiceAt, IsFirst, IsNowhere}
 use Rattle.pn_digest.proofs.Sound.{listing_of}
 use Rattle.pn_digest.proofs.listing.Listing.of_files.Goals as goal
