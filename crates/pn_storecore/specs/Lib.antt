@@ -1,0 +1,5 @@
+pub mod World
+pub mod Steps
+pub mod Lawful
+pub mod Sound
+pub mod Laws

@@ -1,0 +1,15 @@
+//! The core of the content-addressed store that installers share without a lock.
+//!
+//! A store is a journal of steps, each made by one installer. The world that a journal makes has the
+//! files and the listings at their digests, and the temporary files of each number. Which steps are
+//! lawful is a definition, and the laws say what lawful steps of any number of installers, in any
+//! order, leave: a sound world, in which what was published stays.
+#![tactic(auto)]
+
+mod bytes;
+mod laws;
+mod step;
+
+pub use bytes::Bytes;
+pub use laws::{owner_law, place_law, published_law, sound_law};
+pub use step::{Discard, Place, StoreStep};
