@@ -1,13 +1,12 @@
 -- What the base64 of a digest decodes to.
-use Rattle.std.proofs.Common.{◌≡◌, ◌↔◌, ℕ, ◌≤◌, List, ◌++◌, length, take, Option, None, Some, Result, Ok, Err, refl, sym, subst, ap, ◌∙◌, arith, length-append}
+use Rattle.std.proofs.Common.{◌≡◌, ◌↔◌, ℕ, ◌≤◌, List, length, take, None, Some, Result, Ok, Err, refl, sym, subst, ap, ◌∙◌, length-append}
 use Rattle.std.proofs.lemmas.List.{length-take-le}
 use Rattle.base64.specs.Engines.{standard}
 use Rattle.base64.specs.GeneralPurpose.{IsBytes, encode_of, decode_of}
 use Rattle.base64.specs.declared.decode.DecodeError.{DecodeError}
-use Rattle.base64.specs.Rfc4648.{encode_symbols}
 use Rattle.base64.proofs.EngineFacts.{decode_of-encode_of, decode_of_strict}
 use Rattle.base64.proofs.RoundTrip.{length-encode_symbols}
-use Rattle.pn_digest.specs.Digests.{IsDigest, IntegrityLaw}
+use Rattle.pn_digest.specs.Digests.{IsDigest}
 
 pub digest_decodes : (s d : List ℕ) → s ≡ encode_of standard d → IsDigest d → decode_of standard s ≡ Ok d
 digest_decodes s d is digest = rw is (decode_of-encode_of standard d refl digest.1)

@@ -1,5 +1,4 @@
-use Rattle.std.proofs.Common.{arith, take, subst, sym}
-use Rattle.pn_digest.specs.Digests.{IsDigest}
+use Rattle.std.proofs.Common.{arith}
 use Rattle.pn_digest.proofs.IntegrityTexts.{none_exact, length-encoded, decoded_exact, other_size, refused}
 use Rattle.pn_digest.proofs.integrity.decoded.Goals as goal
 
