@@ -32,12 +32,16 @@ pub record PublishedLaw : Type 0 where
   pub listings : (w : World) (steps : Journal) → IsSound w → AreLawful w steps → KeepsObjects w.listings (world_after w steps).listings
   pub named : (w : World) (steps : Journal) → IsSound w → AreLawful w steps → (at bytes file : List ℕ) → w.listings.bytes at ≡ Some bytes → Names bytes file → Stands (world_after w steps).files file
 
+-- the step by which an installer drops a number
+abbrev pub dropping : ℕ → ℕ → Event
+dropping who k = (who, DropTemp k None)
+
 -- A number belongs to one installer from its claim until it drops it.
 pub record OwnerLaw : Type 0 where
   pub free : (w : World) (who k : ℕ) → w.temps k ≡ None → (after who (Claim k) w).temps k ≡ Some (claimed_by who)
   pub taken : (w : World) (who k : ℕ) → w.temps k ≢ None → after who (Claim k) w ≡ w
   pub others : (w : World) (steps : Journal) (me k : ℕ) → owner_of w k ≡ Some me → AreLawful w steps → AreOthers me steps → (world_after w steps).temps k ≡ w.temps k
-  pub undropped : (w : World) (steps : Journal) (me k : ℕ) → owner_of w k ≡ Some me → AreLawful w steps → AllByRecursion (λ (e : Event). e ≢ (me, DropTemp k None)) steps → owner_of (world_after w steps) k ≡ Some me
+  pub undropped : (w : World) (steps : Journal) (me k : ℕ) → owner_of w k ≡ Some me → AreLawful w steps → AllByRecursion (λ (e : Event). e ≢ dropping me k) steps → owner_of (world_after w steps) k ≡ Some me
 
 -- A step that is lawful for an installer is so after any lawful steps of others.
 abbrev pub PlaceLaw : Type 0
