@@ -3,3 +3,5 @@ pub mod Steps
 pub mod Lawful
 pub mod Sound
 pub mod Laws
+pub mod Seen
+pub mod Calls

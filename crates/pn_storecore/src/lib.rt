@@ -7,9 +7,11 @@
 #![tactic(auto)]
 
 mod bytes;
+mod disk;
 mod laws;
 mod step;
 
 pub use bytes::Bytes;
+pub use disk::StoreDisk;
 pub use laws::{owner_law, place_law, published_law, sound_law};
 pub use step::{Discard, Place, StoreStep};
