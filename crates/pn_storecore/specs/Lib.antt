@@ -5,3 +5,4 @@ pub mod Sound
 pub mod Laws
 pub mod Seen
 pub mod Calls
+pub mod Maps

@@ -1,5 +1,5 @@
 // Bytes of a file.
-ghost use Rattle.std.specs.Prelude.{◌≡◌, IfOk};
+ghost use Rattle.std.specs.Prelude.{◌≡◌, ◌++◌, [], IfOk, OnOk, OnErr};
 
 use pn_text::Memory;
 use std::alloc::Global;
@@ -24,11 +24,9 @@ impl Bytes {
     pub fn of(alloc: Global, bytes: &[u8]) -> Result<Bytes, Memory>
         ensures { IfOk result (λ all. all ≡ bytes.now) }
     {
-        let mut all = Vec::new(alloc);
-        match all.extend_from_slice(bytes) {
-            Ok(()) => Ok(Bytes { bytes: all }),
-            Err(_) => Err(Memory),
-        }
+        let mut all = Bytes::empty(alloc);
+        all.extend(bytes)?;
+        Ok(all)
     }
 
     /// The bytes.
@@ -36,5 +34,23 @@ impl Bytes {
         ensures { result.now ≡ self.now }
     {
         self.bytes.as_slice()
+    }
+
+    /// No bytes.
+    pub fn empty(alloc: Global) -> Bytes
+        ensures { result ≡ [] }
+    {
+        Bytes {
+            bytes: Vec::new(alloc),
+        }
+    }
+
+    /// Adds bytes at the end.
+    pub fn extend(&mut self, more: &[u8]) -> Result<(), Memory>
+        ensures ok { OnOk result (self.new ≡ self.old ++ more.now) }
+        ensures err { OnErr result (self.new ≡ self.old) }
+    {
+        self.bytes.extend_from_slice(more)?;
+        Ok(())
     }
 }

@@ -8,8 +8,10 @@
 
 mod bytes;
 mod disk;
+mod folder;
 mod laws;
 mod step;
+mod temps;
 
 pub use bytes::Bytes;
 pub use disk::StoreDisk;
