@@ -2,3 +2,4 @@ pub mod Keys
 pub mod Changes
 pub mod Published
 pub mod Owners
+pub mod Addresses

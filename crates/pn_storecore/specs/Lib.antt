@@ -6,3 +6,5 @@ pub mod Laws
 pub mod Seen
 pub mod Calls
 pub mod Maps
+pub mod Kept
+pub mod Sets

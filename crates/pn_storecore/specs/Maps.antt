@@ -34,5 +34,9 @@ abbrev pub claim_in : ℕ → ℕ → Temps → Option Temp → Temps
 claim_in who k temps None = put_temp temps k (Some (claimed_by who))
 claim_in who k temps (Some t) = temps
 
+abbrev pub dropped_in : ℕ → Option ℕ → Temps → Temps
+dropped_in k (Some n) temps = put_file temps k n None
+dropped_in k None temps = put_temp temps k None
+
 abbrev pub bytes_in : BTreeMap (List ℕ) (List ℕ) → List ℕ → Option (List ℕ)
 bytes_in m at = get (slice_cmp nat_cmp) m at

@@ -10,8 +10,11 @@ mod bytes;
 mod disk;
 mod folder;
 mod laws;
+mod ledger;
+mod objects;
 mod step;
 mod temps;
+mod world;
 
 pub use bytes::Bytes;
 pub use disk::StoreDisk;

@@ -3,7 +3,7 @@ ghost use Rattle.std.specs.Prelude.{◌≡◌, ◌++◌, Some, None, OnOk, OnErr
 ghost use Rattle.std.specs.Option.{option_map, option_copied};
 ghost use Rattle.std.specs.Ordering.{nat_cmp};
 ghost use Rattle.std.specs.BTreeMap.{get};
-ghost use Rattle.pn_storecore.specs.Maps.{temps_in, file_of, put_temp, put_file, claim_in};
+ghost use Rattle.pn_storecore.specs.Maps.{temps_in, file_of, put_temp, put_file, claim_in, dropped_in};
 
 use crate::bytes::Bytes;
 use crate::folder::Folder;
@@ -83,4 +83,16 @@ pub fn remove(temps: &mut BTreeMap<u32, Folder>, k: u32)
     ensures { temps_in temps.new ≡ put_temp (temps_in temps.old) k None }
 {
     let _ = temps.remove(&k);
+}
+
+/// Takes a file of a folder away, where it stands, or the folder.
+pub fn drop_temp(temps: &mut BTreeMap<u32, Folder>, k: u32, n: Option<u32>)
+    ensures { temps_in temps.new ≡ dropped_in k n (temps_in temps.old) }
+{
+    match n {
+        Some(n) => {
+            let _ = take(temps, k, n);
+        }
+        None => remove(temps, k),
+    }
 }
