@@ -3,3 +3,4 @@ pub mod Changes
 pub mod Published
 pub mod Owners
 pub mod Addresses
+pub mod Journals

@@ -1,11 +1,12 @@
 -- What stands at addresses after lawful steps.
 use Rattle.std.proofs.Common.{◌≡◌, ◌≢◌, ℕ, zero, suc, List, [], ◌∷◌, take, true, refl, sym, ap, ◌∙◌, ◌⊎◌, inl, inr, Some, None}
 use Rattle.std.specs.Prelude.{Option}
+use Rattle.std.specs.List.{AllByRecursion}
 use Rattle.sha2.specs.Sha512.{sha512}
 use Rattle.pn_digest.specs.Listing.{Names}
 use Rattle.pn_storecore.specs.World.{Objects, World, empty, Stands}
-use Rattle.pn_storecore.specs.Steps.{Journal, after, world_after, world_of}
-use Rattle.pn_storecore.specs.Lawful.{AreLawful}
+use Rattle.pn_storecore.specs.Steps.{Event, Journal, after, world_after, world_of}
+use Rattle.pn_storecore.specs.Lawful.{AreLawful, IsDiscard, AreLawfulOrDiscards}
 use Rattle.pn_storecore.specs.Sound.{IsSound}
 use Rattle.pn_storecore.specs.Laws.{SoundLaw, PublishedLaw, IsAlone, KeepsObjects}
 use Rattle.pn_storecore.proofs.Keys.{none_some}
@@ -24,11 +25,15 @@ front w [] (suc k) h = tt
 front w (e ∷ es) zero h = tt
 front w (e ∷ es) (suc k) h = (h.0, front (after e.0 e.1 w) es k h.1)
 
+undiscarded : (w : World) (steps : Journal) → AreLawfulOrDiscards w steps → AllByRecursion (λ (e : Event). IsDiscard e.1 → ⊥) steps → AreLawful w steps
+undiscarded w [] h none = tt
+undiscarded w (e ∷ es) h none = (elim h.0 [ inl lawful ↦ lawful | inr discard ↦ absurd (none.0 discard) ], undiscarded (after e.0 e.1 w) es h.1 none.1)
+
 pub sound : SoundLaw
 sound = record {
   at_first = sound_empty;
   stays = λ w steps is h k. sound_steps w (take k steps) is (front w steps k h);
-  told = λ journal h. sound_steps empty journal sound_empty h;
+  told = λ journal h none. sound_steps empty journal sound_empty (undiscarded empty journal h none);
 }
 
 step_keeps : {May : List ℕ → List ℕ → Type 0} (old new : Objects) → ((at bytes : List ℕ) → old.bytes at ≡ Some bytes → sha512 bytes ≡ at) → ((at bytes : List ℕ) → May at bytes → sha512 bytes ≡ at)

@@ -7,7 +7,7 @@ use Rattle.std.specs.Ordering.{nat_cmp}
 use Rattle.pn_text.specs.declared.fault.DevFault.{DevFault}
 use Rattle.pn_storecore.specs.declared.step.StoreStep.{StoreStep}
 use Rattle.pn_storecore.specs.declared.step.StoreStep.TheVariants.{Append}
-use Rattle.pn_storecore.specs.World.{Objects, World, Stands}
+use Rattle.pn_storecore.specs.World.{Temp, Objects, World, Stands}
 use Rattle.pn_storecore.specs.Steps.{Journal, world_after, world_of}
 use Rattle.pn_storecore.specs.Lawful.{AreLawful, AreOthers}
 use Rattle.pn_storecore.specs.Seen.{Seen}
@@ -63,7 +63,7 @@ pub record AreAddresses (o : Objects) (all : List (List ℕ)) : Type 0 where
   pub every : (at : List ℕ) → Stands o at → Contains all at
 
 -- The numbers whose folder stands, rising.
-pub record AreNumbers (w : World) (all : List ℕ) : Type 0 where
+pub record AreNumbersOf (temps : ℕ → Option Temp) (all : List ℕ) : Type 0 where
   pub rising : IsStrictlySortedBy nat_cmp all
-  pub stand : (k : ℕ) → Contains all k → w.temps k ≢ None
-  pub every : (k : ℕ) → w.temps k ≢ None → Contains all k
+  pub stand : (k : ℕ) → Contains all k → temps k ≢ None
+  pub every : (k : ℕ) → temps k ≢ None → Contains all k

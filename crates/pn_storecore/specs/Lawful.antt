@@ -1,5 +1,5 @@
 -- Which steps are lawful for an installer.
-use Rattle.std.specs.Prelude.{◌≡◌, ◌≢◌, ℕ, ◌≤◌, true, List, [], ◌∷◌, length, Option, Some, None}
+use Rattle.std.specs.Prelude.{◌≡◌, ◌≢◌, ◌⊎◌, ℕ, ◌≤◌, true, List, [], ◌∷◌, length, Option, Some, None}
 use Rattle.std.specs.List.{AllByRecursion}
 use Rattle.sha2.specs.Sha512.{sha512}
 use Rattle.pn_digest.specs.Listing.{IsListingText, Names}
@@ -64,3 +64,13 @@ AreLawful w (e ∷ es) = IsLawful e.0 e.1 w × AreLawful (after e.0 e.1 w) es
 -- none of the steps is this installer's
 abbrev pub AreOthers : ℕ → Journal → Type 0
 AreOthers me steps = AllByRecursion (λ (e : Event). e.0 ≢ me) steps
+
+-- the ninth kind of step
+abbrev pub IsDiscard : StoreStep → Type 0
+IsDiscard (Discard what) = Unit {0}
+IsDiscard step = ⊥
+
+-- each of the steps is lawful at its place, or discards something
+abbrev pub AreLawfulOrDiscards : World → Journal → Type 0
+AreLawfulOrDiscards w [] = Unit {0}
+AreLawfulOrDiscards w (e ∷ es) = (IsLawful e.0 e.1 w ⊎ IsDiscard e.1) × AreLawfulOrDiscards (after e.0 e.1 w) es

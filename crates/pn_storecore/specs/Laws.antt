@@ -7,14 +7,15 @@ use Rattle.pn_storecore.specs.declared.step.StoreStep.{StoreStep}
 use Rattle.pn_storecore.specs.declared.step.StoreStep.TheVariants.{Claim, DropTemp}
 use Rattle.pn_storecore.specs.World.{Objects, World, empty, Stands, owner_of, claimed_by}
 use Rattle.pn_storecore.specs.Steps.{Event, Journal, after, world_after, world_of}
-use Rattle.pn_storecore.specs.Lawful.{IsLawful, AreLawful, AreOthers}
+use Rattle.pn_storecore.specs.Lawful.{IsLawful, AreLawful, AreOthers, IsDiscard, AreLawfulOrDiscards}
 use Rattle.pn_storecore.specs.Sound.{IsSound}
 
--- The empty store is sound, and a sound one stays so, after each of the steps.
+-- The empty store is sound, and a sound one stays so after each of the steps. So a told journal without
+-- discards leaves a sound one.
 pub record SoundLaw : Type 0 where
   pub at_first : IsSound empty
   pub stays : (w : World) (steps : Journal) → IsSound w → AreLawful w steps → (k : ℕ) → IsSound (world_after w (take k steps))
-  pub told : (journal : Journal) → AreLawful empty journal → IsSound (world_of journal)
+  pub told : (journal : Journal) → AreLawfulOrDiscards empty journal → AllByRecursion (λ (e : Event). IsDiscard e.1 → ⊥) journal → IsSound (world_of journal)
 
 -- no other bytes have this digest
 abbrev pub IsAlone : List ℕ → Type 0

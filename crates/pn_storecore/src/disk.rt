@@ -4,8 +4,9 @@ ghost use Rattle.pn_text.specs.Causes.{HasCause};
 ghost use Rattle.pn_storecore.specs.World.{empty, objects};
 ghost use Rattle.pn_storecore.specs.Steps.{Journal};
 ghost use Rattle.pn_storecore.specs.declared.step.StoreStep.TheVariants as step;
-ghost use Rattle.pn_storecore.specs.Seen.{Seen, Keeps, Asks, AreLawfulOrDiscards};
-ghost use Rattle.pn_storecore.specs.Calls.{Answers, Does, Appends, IsClaim, IsRead, AreAddresses, AreNumbers};
+ghost use Rattle.pn_storecore.specs.Lawful.{AreLawfulOrDiscards};
+ghost use Rattle.pn_storecore.specs.Seen.{Seen, Keeps, Asks};
+ghost use Rattle.pn_storecore.specs.Calls.{Answers, Does, Appends, IsClaim, IsRead, AreAddresses, AreNumbersOf};
 
 use crate::step::{Discard, Place};
 use pn_digest::Digest;
@@ -89,7 +90,7 @@ pub trait StoreDisk {
 
     /// The numbers whose folder stands, rising.
     fn numbers(&mut self) -> Result<Vec<u32>, DevFault>
-        ensures step { Answers (seen self.old) step.Read (seen self.new) result (λ w all. AreNumbers w all.items) }
+        ensures step { Answers (seen self.old) step.Read (seen self.new) result (λ w all. AreNumbersOf w.temps all.items) }
         ensures kept { Keeps (seen self.old) (seen self.new) }
         ensures cause { HasCause (seen self.old).faults (seen self.new).faults result };
 

@@ -2,8 +2,7 @@
 ghost use Rattle.std.specs.Prelude.{◌≡◌, ◌⊎◌, ◌++◌, ◌∷◌, [], OnOk, OnErr};
 ghost use Rattle.pn_storecore.specs.World.{empty};
 ghost use Rattle.pn_storecore.specs.Steps.{world_of};
-ghost use Rattle.pn_storecore.specs.Lawful.{IsLawful};
-ghost use Rattle.pn_storecore.specs.Seen.{IsDiscard, AreLawfulOrDiscards};
+ghost use Rattle.pn_storecore.specs.Lawful.{IsLawful, IsDiscard, AreLawfulOrDiscards};
 ghost use Rattle.pn_storecore.specs.Kept.{world_in};
 ghost use Rattle.pn_storecore.specs.Sets.{World-set};
 

@@ -12,6 +12,7 @@ mod folder;
 mod laws;
 mod ledger;
 mod objects;
+mod piece;
 mod step;
 mod temps;
 mod world;

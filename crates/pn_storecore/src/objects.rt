@@ -1,10 +1,12 @@
 // What stands at the addresses of one place.
-ghost use Rattle.std.specs.Prelude.{◌≡◌, ◌≢◌, ℕ, false, slice_index_or, Some, None, OnOk, OnErr};
+ghost use Rattle.std.specs.Prelude.{◌≡◌, ◌≢◌, ◌≤◌, ◌<◌, ℕ, false, length, slice_index_or, Some, None, OnOk, OnErr, IfOk, IfSome};
 ghost use Rattle.std.specs.Option.{option_copied};
 ghost use Rattle.pn_storecore.specs.World.{no_objects, with_bytes};
 ghost use Rattle.pn_storecore.specs.Steps.{with_shard};
+ghost use Rattle.pn_storecore.specs.Calls.{IsRead, AreAddresses};
 
 use crate::bytes::Bytes;
+use crate::piece::copy_piece;
 use pn_digest::Digest;
 use pn_text::Memory;
 use std::alloc::Global;
@@ -75,5 +77,28 @@ impl ObjectMap {
         ensures { option_copied result ≡ (objects_in self.now).bytes at.now }
     {
         self.bytes.get(at)
+    }
+
+    /// Copies a piece of what stands at an address, if anything does.
+    pub fn read(&self, at: &Digest, from: u64, into: &mut [u8]) -> Option<usize>
+        requires { 0 < length into.old }
+        ensures within { IfSome result (λ n. n ≤ length into.old) }
+        ensures read { IsRead ((objects_in self.now).bytes at.now) from into.new result }
+    {
+        match self.at(at) {
+            Some(bytes) => Some(copy_piece(bytes.as_slice(), from, into)),
+            None => None,
+        }
+    }
+
+    /// The addresses at which something stands, in byte order.
+    pub fn addresses(&self, alloc: Global) -> Result<Vec<Digest>, Memory>
+        ensures { IfOk result (λ all. AreAddresses (objects_in self.now) all.items) }
+    {
+        let mut all = Vec::new(alloc);
+        for at in self.bytes.keys() {
+            all.push(at.copy())?;
+        }
+        Ok(all)
     }
 }

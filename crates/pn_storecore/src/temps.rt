@@ -1,9 +1,10 @@
 // Temporary files, in folders by their numbers.
-ghost use Rattle.std.specs.Prelude.{◌≡◌, ◌++◌, Some, None, OnOk, OnErr};
+ghost use Rattle.std.specs.Prelude.{◌≡◌, ◌++◌, Some, None, OnOk, OnErr, IfOk};
 ghost use Rattle.std.specs.Option.{option_map, option_copied};
 ghost use Rattle.std.specs.Ordering.{nat_cmp};
 ghost use Rattle.std.specs.BTreeMap.{get};
 ghost use Rattle.pn_storecore.specs.Maps.{temps_in, file_of, put_temp, put_file, claim_in, dropped_in};
+ghost use Rattle.pn_storecore.specs.Calls.{AreNumbersOf};
 
 use crate::bytes::Bytes;
 use crate::folder::Folder;
@@ -95,4 +96,15 @@ pub fn drop_temp(temps: &mut BTreeMap<u32, Folder>, k: u32, n: Option<u32>)
         }
         None => remove(temps, k),
     }
+}
+
+/// The numbers whose folder stands, rising.
+pub fn numbers(alloc: Global, temps: &BTreeMap<u32, Folder>) -> Result<Vec<u32>, Memory>
+    ensures { IfOk result (λ all. AreNumbersOf (temps_in temps.now) all.items) }
+{
+    let mut all = Vec::new(alloc);
+    for k in temps.keys() {
+        all.push(*k)?;
+    }
+    Ok(all)
 }
