@@ -4,3 +4,4 @@ pub mod Published
 pub mod Owners
 pub mod Addresses
 pub mod Journals
+pub mod KeyLists
