@@ -5,3 +5,4 @@ pub mod Owners
 pub mod Addresses
 pub mod Journals
 pub mod KeyLists
+pub mod Own

@@ -8,3 +8,4 @@ pub mod Calls
 pub mod Maps
 pub mod Kept
 pub mod Sets
+pub mod Told

@@ -14,6 +14,7 @@ mod ledger;
 mod objects;
 mod piece;
 mod step;
+mod sure;
 mod temps;
 mod world;
 
@@ -21,3 +22,4 @@ pub use bytes::Bytes;
 pub use disk::StoreDisk;
 pub use laws::{owner_law, place_law, published_law, sound_law};
 pub use step::{Discard, Place, StoreStep};
+pub use sure::SureStore;

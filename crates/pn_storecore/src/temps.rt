@@ -37,12 +37,7 @@ pub fn claim(
 }
 
 /// Leaves a file in a folder, where that stands.
-pub fn put(
-    temps: &mut BTreeMap<u32, Folder>,
-    k: u32,
-    n: u32,
-    bytes: Bytes,
-) -> Result<(), Memory>
+pub fn put(temps: &mut BTreeMap<u32, Folder>, k: u32, n: u32, bytes: Bytes) -> Result<(), Memory>
     ensures ok { OnOk result (temps_in temps.new ≡ put_file (temps_in temps.old) k n (Some bytes)) }
     ensures err { OnErr result (temps_in temps.new ≡ temps_in temps.old) }
 {
@@ -53,12 +48,7 @@ pub fn put(
 }
 
 /// Adds bytes to a file, where it stands.
-pub fn append(
-    temps: &mut BTreeMap<u32, Folder>,
-    k: u32,
-    n: u32,
-    more: &[u8],
-) -> Result<(), Memory>
+pub fn append(temps: &mut BTreeMap<u32, Folder>, k: u32, n: u32, more: &[u8]) -> Result<(), Memory>
     ensures ok { OnOk result (temps_in temps.new ≡ put_file (temps_in temps.old) k n (option_map (λ bytes. bytes ++ more.now) (file_of (temps_in temps.old) k n))) }
     ensures err { OnErr result (temps_in temps.new ≡ temps_in temps.old) }
 {

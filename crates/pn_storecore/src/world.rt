@@ -1,6 +1,7 @@
 // The world of a store in memory.
 ghost use Rattle.std.specs.Prelude.{◌≡◌, Some, None, OnOk, OnErr};
-ghost use Rattle.pn_storecore.specs.World.{empty, with_bytes};
+ghost use Rattle.std.specs.Option.{is_some};
+ghost use Rattle.pn_storecore.specs.World.{empty, objects, with_bytes};
 ghost use Rattle.pn_storecore.specs.Steps.{after, discarded};
 ghost use Rattle.pn_storecore.specs.declared.step.StoreStep.TheVariants as step;
 ghost use Rattle.pn_storecore.specs.Maps.{temps_in, file_of, put_file};
@@ -113,6 +114,23 @@ impl StoreWorld {
                 self.discard(what);
                 Ok(())
             }
+        }
+    }
+
+    /// Whether the folder of a number stands.
+    pub fn stands(&self, k: u32) -> bool
+        ensures { result ≡ is_some ((world_in self.now).temps k) }
+    {
+        self.temps.contains_key(&k)
+    }
+
+    /// What stands at the addresses of a place.
+    pub fn objects(&self, place: Place) -> &ObjectMap
+        ensures { objects_in result.now ≡ objects (world_in self.now) place }
+    {
+        match place {
+            Place::Files => &self.files,
+            Place::Listings => &self.listings,
         }
     }
 }
