@@ -1,1 +1,8 @@
+pub mod Bad
+pub mod Elements
+pub mod FolderSets
+pub mod Fronts
 pub mod IntegrityTexts
+pub mod RelPaths
+pub mod Rising
+pub mod Twice

@@ -1,3 +1,5 @@
 pub mod Digests
+pub mod Folders
 pub mod Hashing
 pub mod Listing
+pub mod ListingFaults

@@ -1,6 +1,6 @@
 -- Listings: the files of a package, each with its digest, and their text.
-use Rattle.std.specs.Prelude.{◌≡◌, ℕ, ◌≤◌, List, [], ◌∷◌, ◌++◌, length, drop, map, true}
-use Rattle.std.specs.List.{Contains}
+use Rattle.std.specs.Prelude.{◌≡◌, ℕ, ◌≤◌, ◌==◌, Bool, true, false, List, [], ◌∷◌, ◌++◌, length, drop, map}
+use Rattle.std.specs.List.{Contains, list_any}
 use Rattle.std.specs.List.Sorted.{IsStrictlySortedBy}
 use Rattle.std.specs.Str.{is_utf8}
 use Rattle.std.specs.Cmp.Lexicographic.{slice_cmp}
@@ -26,12 +26,20 @@ abbrev pub listing_text : List Entry → List ℕ
 listing_text [] = []
 listing_text (e ∷ es) = line_text e ++ 10 ∷ listing_text es
 
--- A path below a folder, of at most 4,096 bytes of UTF-8 on one line, and a digest.
+-- whether a text has a line feed
+abbrev pub has_feed : List ℕ → Bool
+has_feed text = list_any (λ b. b == 10) text
+
+-- A path below some folder, of at most 4,096 bytes of UTF-8.
+pub record IsRelPath (p : Path) : Type 0 where
+  pub spelled : SpellsParts (rel_text p) p
+  pub short : length (rel_text p) ≤ 4096
+  pub utf8 : is_utf8 (rel_text p) ≡ true
+
+-- Such a path without a line feed, and a digest.
 pub record IsEntry (e : Entry) : Type 0 where
-  pub spelled : SpellsParts (rel_text e.0) e.0
-  pub short : length (rel_text e.0) ≤ 4096
-  pub utf8 : is_utf8 (rel_text e.0) ≡ true
-  pub one_line : Contains (rel_text e.0) 10 → ⊥
+  pub path : IsRelPath e.0
+  pub one_line : has_feed (rel_text e.0) ≡ false
   pub digest : IsDigest e.1
 
 -- byte order of the paths' texts, each once

@@ -5,10 +5,14 @@
 #![tactic(auto)]
 
 mod digest;
+mod fault;
+mod files;
+mod folders;
 mod hasher;
 mod integrity;
 
 pub use digest::Digest;
+pub use fault::ListingFault;
 pub use hasher::Hasher512;
 pub use integrity::{Integrity, integrity_law};
 

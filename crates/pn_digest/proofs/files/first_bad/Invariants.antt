@@ -1,0 +1,5 @@
+use Rattle.pn_digest.proofs.Bad.{NoneBad}
+use Rattle.pn_digest.proofs.files.first_bad.Given as goal
+
+abbrev pub invariant-loop-i : goal.invariant-loop-i
+invariant-loop-i l = NoneBad l.files l.i
