@@ -1,7 +1,7 @@
 -- Lemmas on the keys of maps, in a list.
-use Rattle.std.proofs.Common.{◌≡◌, ◌≢◌, ℕ, List, [], ◌++◌, true, refl, sym, ap, ◌∙◌, subst, append-nil, Some, None}
+use Rattle.std.proofs.Common.{◌≡◌, ◌≢◌, ℕ, Bool, List, [], ◌∷◌, ◌++◌, length, true, refl, sym, ap, ◌∙◌, subst, append-nil, Some, None, arith}
 use Rattle.std.specs.Prelude.{Option}
-use Rattle.std.specs.Option.{is_some, option_map}
+use Rattle.std.specs.Option.{is_some, option_map, option_and_then}
 use Rattle.std.specs.List.{Contains}
 use Rattle.std.specs.List.Sorted.{IsStrictlySortedBy}
 use Rattle.std.specs.Bool.{Decides}
@@ -11,14 +11,18 @@ use Rattle.std.specs.declared.cmp.Ordering.TheVariants.{Less, Equal, Greater}
 use Rattle.std.specs.Ordering.{nat_cmp, is_eq, eq_by_cmp}
 use Rattle.std.specs.Cmp.{nat_cmp_is}
 use Rattle.std.specs.Cmp.Lexicographic.{slice_cmp}
-use Rattle.std.specs.BTreeMap.{BTreeMap, keys, get, IsOrdered}
+use Rattle.std.specs.BTreeMap.{BTreeMap, keys, get, is_at, btree_map_len, IsOrdered}
+use Rattle.std.specs.Map.{lookup}
+use Rattle.std.proofs.lemmas.Cmp.{eq_by_cmp_equiv, nat_cmp_total}
 use Rattle.std.proofs.lemmas.Map.Lookups.{exact_unsigned}
-use Rattle.std.proofs.lemmas.Map.Made.{is_member-Decides}
+use Rattle.std.proofs.lemmas.Map.Made.{is_member-Decides, nil_from_lookup}
 use Rattle.std.proofs.lemmas.Map.Text.{is_eq-slice_cmp}
 use Rattle.std.proofs.lemmas.Slice.Eq.{bytes_eq-Decides}
 use Rattle.pn_storecore.specs.declared.folder.Folder.{Folder}
 use Rattle.pn_storecore.specs.Maps.{temps_in, temp_in}
-use Rattle.pn_storecore.specs.Kept.{objects_in}
+use Rattle.pn_storecore.specs.Kept.{objects_in, world_in}
+use Rattle.pn_storecore.specs.World.{Temp, content}
+use Rattle.pn_storecore.specs.declared.world.StoreWorld.{StoreWorld}
 use Rattle.pn_storecore.specs.declared.objects.ObjectMap.{ObjectMap}
 use Rattle.pn_storecore.specs.Calls.{AreAddresses, AreNumbersOf}
 
@@ -76,3 +80,11 @@ numbers m all rest seen are rise has so_far none = subst (AreNumbersOf (temps_in
   stand = λ k h. mapped_none (get nat_cmp m k) (stands nat_cmp numbers_decide m (λ q. has q ∙ ap (λ ks. is_member (eq_by_cmp nat_cmp) ks q) are) k h);
   every = λ k h. listed nat_cmp numbers_decide m (λ q. has q ∙ ap (λ ks. is_member (eq_by_cmp nat_cmp) ks q) are) k (unmapped_none (get nat_cmp m k) h);
 })
+
+-- no file stands in a folder exactly where its map is empty
+pub bare : (f : Folder) (w : StoreWorld) (k : ℕ) (b : Bool) → Some f ≡ get nat_cmp w.temps k → Decides b (btree_map_len f.files ≡ 0) → Decides b ((m : ℕ) → content (world_in w) k m ≡ None)
+bare f w k b is empty = (λ yes m. at m ∙ ap (λ es. lookup (is_at (nat_cmp m)) es) (nil (empty.0 yes)), λ none. empty.1 (ap length (nil_from_lookup (eq_by_cmp_equiv nat_cmp_total) f.files.entries (λ m. sym (at m) ∙ none m)))) where
+  at : (m : ℕ) → content (world_in w) k m ≡ get nat_cmp f.files m
+  at m = ap (λ o. option_and_then (λ (t : Temp). t.files m) (option_map temp_in o)) (sym is)
+  nil : length f.files.entries ≡ 0 → f.files.entries ≡ []
+  nil h = elim f.files.entries as (λ es. length es ≡ 0 → es ≡ []) [ [] ↦ λ e. refl | (x ∷ es) ↦ λ e. absurd (omega (arith, e)) ] h

@@ -6,3 +6,4 @@ pub mod Addresses
 pub mod Journals
 pub mod KeyLists
 pub mod Own
+pub mod Standing

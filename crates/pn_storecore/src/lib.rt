@@ -7,6 +7,7 @@
 #![tactic(auto)]
 
 mod bytes;
+mod conditions;
 mod disk;
 mod folder;
 mod laws;
@@ -16,6 +17,7 @@ mod piece;
 mod step;
 mod sure;
 mod temps;
+mod turns;
 mod world;
 
 pub use bytes::Bytes;

@@ -1,7 +1,10 @@
 // The steps that installers make on a store.
+ghost use Rattle.std.specs.Prelude.{◌≡◌, IfOk};
 
 use crate::bytes::Bytes;
 use pn_digest::Digest;
+use pn_text::Memory;
+use std::alloc::Global;
 
 /// Where a digest is an address: among the packages' files, or among the listings.
 #[derive(Clone, Copy, Debug, PartialEq, Eq)]
@@ -30,4 +33,26 @@ pub enum StoreStep {
     DropTemp(u32, Option<u32>),
     Read,
     Discard(Discard),
+}
+
+impl StoreStep {
+    /// An equal step.
+    pub fn copy(&self, alloc: Global) -> Result<StoreStep, Memory>
+        ensures { IfOk result (λ step. step ≡ self.now) }
+    {
+        match self {
+            StoreStep::Claim(k) => Ok(StoreStep::Claim(*k)),
+            StoreStep::Create(k, n) => Ok(StoreStep::Create(*k, *n)),
+            StoreStep::Append(k, n, more) => {
+                let more = Bytes::of(alloc, more.as_slice())?;
+                Ok(StoreStep::Append(*k, *n, more))
+            }
+            StoreStep::Shard(place, first) => Ok(StoreStep::Shard(*place, *first)),
+            StoreStep::PublishFile(k, n, at) => Ok(StoreStep::PublishFile(*k, *n, at.copy())),
+            StoreStep::PublishListing(k, n, at) => Ok(StoreStep::PublishListing(*k, *n, at.copy())),
+            StoreStep::DropTemp(k, n) => Ok(StoreStep::DropTemp(*k, *n)),
+            StoreStep::Read => Ok(StoreStep::Read),
+            StoreStep::Discard(what) => Ok(StoreStep::Discard(*what)),
+        }
+    }
 }
