@@ -25,3 +25,6 @@ pub use disk::StoreDisk;
 pub use laws::{owner_law, place_law, published_law, sound_law};
 pub use step::{Discard, Place, StoreStep};
 pub use sure::SureStore;
+
+#[cfg(test)]
+mod tests;
