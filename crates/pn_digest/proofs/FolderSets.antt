@@ -1,7 +1,6 @@
 -- How a set gets the folders above files.
-use Rattle.std.proofs.Common.{◌≡◌, ℕ, ◌+◌, ◌<◌, List, [], ◌∷◌, ◌++◌, length, take, get_or, refl, sym, ap, ◌∙◌, subst, arith, Bool, true, false, inl, inr}
+use Rattle.std.proofs.Common.{◌≡◌, ℕ, ◌+◌, ◌<◌, List, [], length, take, get_or, sym, ◌∙◌, subst, Bool, true, false, inl, inr}
 use Rattle.std.specs.Prelude.{◌⊎◌, ◌↔◌, IsTrue}
-use Rattle.std.specs.List.{Contains}
 use Rattle.pn_digest.specs.Listing.{Entry, IsRelPath, rel_text}
 use Rattle.pn_digest.specs.Folders.{IsFolderText, HasFolders}
 use Rattle.pn_digest.proofs.Elements.{none_in, in_front_more, still_in_front, now_in_front}

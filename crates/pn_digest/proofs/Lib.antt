@@ -2,7 +2,13 @@ pub mod Bad
 pub mod Elements
 pub mod FolderSets
 pub mod Fronts
+pub mod HexTexts
 pub mod IntegrityTexts
+pub mod LineParts
+pub mod LineTexts
+pub mod OneText
+pub mod PathTexts
 pub mod RelPaths
 pub mod Rising
+pub mod Sound
 pub mod Twice

@@ -1,9 +1,9 @@
 -- Relative paths and their texts.
 use Rattle.std.proofs.Common.{◌≡◌, ℕ, ◌≤◌, List, [], ◌∷◌, ◌++◌, length, drop, refl, sym, ap, ◌∙◌, subst, append_assoc, append-nil, true}
-use Rattle.std.specs.Prelude.{IsTrue, IsUtf8, ◌==◌, if◌then◌else◌, false}
+use Rattle.std.specs.Prelude.{IsUtf8, ◌==◌, if◌then◌else◌, false}
 use Rattle.std.specs.Str.{is_utf8}
 use Rattle.std.proofs.lemmas.Str.{is_utf8-from_IsUtf8}
-use Rattle.pn_text.specs.Path.{Path, is_path, text_below, parts_from, tail_of, SpellsParts}
+use Rattle.pn_text.specs.Path.{Path, text_below, parts_from, tail_of, SpellsParts}
 use Rattle.pn_text.proofs.Paths.{tail_of-spelled, parts_from-append, parts_from-text_below}
 use Rattle.pn_text.proofs.Splits.{parts_from-below}
 use Rattle.pn_digest.specs.Listing.{rel_text, IsRelPath}

@@ -44,8 +44,12 @@ FilesRefused files (Twice at) = IsNowhere (IsBadAt files) × IsFirst (IsTwiceAt 
 FilesRefused files NotListing = ⊥
 FilesRefused files Memory = Unit {0}
 
+-- bytes are refused where they aren't so, and for want of memory
+abbrev pub UnlessSo : Type 0 → ListingFault → Type 0
+UnlessSo P (BadPath at) = ⊥
+UnlessSo P (Twice at) = ⊥
+UnlessSo P NotListing = P → ⊥
+UnlessSo P Memory = Unit {0}
+
 abbrev pub BytesRefused : List ℕ → ListingFault → Type 0
-BytesRefused bytes (BadPath at) = ⊥
-BytesRefused bytes (Twice at) = ⊥
-BytesRefused bytes NotListing = IsListingText bytes → ⊥
-BytesRefused bytes Memory = Unit {0}
+BytesRefused bytes fault = UnlessSo (IsListingText bytes) fault

@@ -1,5 +1,5 @@
 // Digests.
-ghost use Rattle.std.specs.Prelude.{◌≡◌, ◌==◌, IfOk};
+ghost use Rattle.std.specs.Prelude.{◌≡◌, ◌==◌, ◌↔◌, ℕ, List, Some, IfOk};
 ghost use Rattle.std.proofs.Common.{rules};
 ghost use Rattle.std.specs.Cmp.{partial_order_from_own_ties};
 ghost use Rattle.std.specs.Cmp.Lexicographic.{slice_cmp, pointwise};
@@ -54,6 +54,31 @@ impl Digest {
         ensures { result ≡ self.now }
     {
         *self
+    }
+
+    /// Reads hex digits: None exactly where they aren't the 128 lower-case ones of 64 bytes. It takes no memory.
+    pub fn from_hex(digits: &[u8]) -> Option<Digest>
+        ensures exact { (d : List ℕ) → (result ≡ Some d) ↔ ((digits.now ≡ encode_lower d) × IsDigest d) }
+    {
+        let mut bytes = [0u8; 64];
+        if hex::decode_to_slice(digits, &mut bytes).is_err() {
+            return None;
+        }
+        let digest = Digest::of(bytes);
+        if digest.hex_digits().as_slice() == digits {
+            Some(digest)
+        } else {
+            None
+        }
+    }
+
+    // The 128 hex digits of the bytes, in lower case.
+    pub(crate) fn hex_digits(&self) -> [u8; 128]
+        ensures { result ≡ encode_lower self.now }
+    {
+        let mut digits = [0u8; 128];
+        let _ = hex::encode_to_slice(self.bytes.as_slice(), &mut digits);
+        digits
     }
 
     /// The 128 hex digits of the bytes, in lower case.

@@ -22,11 +22,7 @@ pub fn folders(alloc: Global, files: &[(RelPath, Digest)]) -> Result<BTreeSet<St
 }
 
 // Adds the folders above a path.
-fn add_folders(
-    alloc: Global,
-    folders: &mut BTreeSet<String>,
-    path: &str,
-) -> Result<(), Memory>
+fn add_folders(alloc: Global, folders: &mut BTreeSet<String>, path: &str) -> Result<(), Memory>
     ensures { OnOk result ((t : List ℕ) → IsTrue (contains_text folders.new t) ↔ (IsTrue (contains_text folders.old t) ⊎ IsFolderText path.now t)) }
 {
     for (i, b) in path.as_bytes().iter().enumerate() {

@@ -10,11 +10,14 @@ mod files;
 mod folders;
 mod hasher;
 mod integrity;
+mod lines;
+mod listing;
 
 pub use digest::Digest;
 pub use fault::ListingFault;
 pub use hasher::Hasher512;
 pub use integrity::{Integrity, integrity_law};
+pub use listing::{Listing, listing_law};
 
 #[cfg(test)]
 mod tests;

@@ -1,4 +1,6 @@
 use super::*;
+use pn_text::RelPath;
+use std::alloc::Global;
 use std::test::Fail;
 
 const OF_NOTHING: &str =
@@ -45,5 +47,113 @@ fn integrities_are_printed_and_read(rt: HostRuntime) -> Result<(), Fail> {
     ] {
         assert!(rt; Integrity::read(text).is_none(), "{text}");
     }
+    Ok(())
+}
+
+const HEX_OF_NOTHING: &str =
+    "cf83e1357eefb8bdf1542850d66d8007d620e4050b5715dc83f4a921d36ce9ce47d0d13c5d85f2b0ff8318d2877eec2f63b931bd47417a81a538327af927da3e";
+
+// Files of these paths with the bytes `abc`.
+fn files(alloc: Global, paths: &[&str]) -> Result<Vec<(RelPath, Digest)>, Fail> {
+    let mut files = Vec::new(alloc);
+    for path in paths {
+        files.push((RelPath::read(alloc, path)?, digest_of(&["abc"])))?;
+    }
+    Ok(files)
+}
+
+// Their lines, in the order given.
+fn lines(alloc: Global, paths: &[&str]) -> Result<String, Fail> {
+    let mut text = String::new(alloc);
+    for path in paths {
+        text.push_str(HEX_OF_ABC)?;
+        text.push_str(" ")?;
+        text.push_str(path)?;
+        text.push_str("\n")?;
+    }
+    Ok(text)
+}
+
+#[test]
+fn a_listing_has_a_line_a_file(rt: HostRuntime) -> Result<(), Fail> {
+    let alloc = rt.alloc();
+    let listing = Listing::of_files(alloc, files(alloc, &["x"])?)?;
+    let text = listing.print(alloc)?;
+    assert!(rt; text.as_slice() == lines(alloc, &["x"])?.as_bytes());
+    assert_eq!(rt;
+        listing.integrity(alloc)?.print(alloc)?.as_str(),
+        "sha512-wx3df9cLmoqUBvHiZq8/LAzDW8CLQhMxXjV6InLIIB3Q6cZk+5ykqCYtzLWNzWkPdJFiFm6a4iu5Ff+ha4F9aA=="
+    );
+    Ok(())
+}
+
+#[test]
+fn files_are_listed_in_byte_order(rt: HostRuntime) -> Result<(), Fail> {
+    let alloc = rt.alloc();
+    let mut found = files(alloc, &["b/c", "a"])?;
+    found.push((RelPath::read(alloc, "a-b")?, digest_of(&[])))?;
+    let listing = Listing::of_files(alloc, found)?;
+    assert_eq!(rt;
+        listing.integrity(alloc)?.print(alloc)?.as_str(),
+        "sha512-sr1sDfkSwNkVvKgdsc4smOOQKy2tcXX9Ac8LNaI9a8xRyELlYMfLH/67cmTdu7TjWMu5zTWURnHgLB8IbUG3uQ=="
+    );
+    let read = Listing::read(alloc, listing.print(alloc)?.as_slice())?;
+    assert!(rt; read.len() == 3);
+    let second = &read.as_slice()[1];
+    assert_eq!(rt; second.0.as_str(), "a-b");
+    assert_eq!(rt; second.1.hex(alloc)?.as_str(), HEX_OF_NOTHING);
+    assert!(rt; Digest::from_hex(HEX_OF_NOTHING.as_bytes()) == Some(second.1));
+    Ok(())
+}
+
+#[test]
+fn files_that_make_no_listing_are_refused(rt: HostRuntime) -> Result<(), Fail> {
+    let alloc = rt.alloc();
+    let cases: [(&[&str], Option<ListingFault>); 8] = [
+        (&[], None),
+        (&["a-b", "a/x", "b", "a/b/x", "a.b"], None),
+        (&["a", "b\nc"], Some(ListingFault::BadPath(1))),
+        (&["b", "a/x", "a"], Some(ListingFault::BadPath(2))),
+        (&["a", "a-b", "a/b/c"], Some(ListingFault::BadPath(0))),
+        (&["b", "a", "b"], Some(ListingFault::Twice(2))),
+        (&["a", "a", "b\n"], Some(ListingFault::BadPath(2))),
+        (&["c", "b", "b", "c"], Some(ListingFault::Twice(2))),
+    ];
+    for (paths, wanted) in cases {
+        let found = Listing::of_files(alloc, files(alloc, paths)?).err();
+        assert!(rt; found == wanted);
+    }
+    Ok(())
+}
+
+#[test]
+fn only_the_texts_of_listings_are_read(rt: HostRuntime) -> Result<(), Fail> {
+    let alloc = rt.alloc();
+    assert!(rt; Listing::read(alloc, b"")?.len() == 0);
+    let cases: [&[&str]; 9] = [
+        &[""],
+        &["/a"],
+        &["a/"],
+        &["a/../b"],
+        &["a", ""],
+        &["b", "a"],
+        &["a", "a"],
+        &["a", "a/b"],
+        &["a", "a-b", "a/b"],
+    ];
+    for paths in cases {
+        let text = lines(alloc, paths)?;
+        let found = Listing::read(alloc, text.as_bytes()).err();
+        assert!(rt; found == Some(ListingFault::NotListing), "{text}");
+    }
+    let text = lines(alloc, &["x"])?;
+    let (front, _) = text.as_bytes().split_at(text.len() - 1);
+    assert!(rt; Listing::read(alloc, front).err() == Some(ListingFault::NotListing));
+    let mut upper = Vec::from_slice(alloc, text.as_bytes())?;
+    upper[0] = b'D';
+    assert!(rt; Listing::read(alloc, upper.as_slice()).err() == Some(ListingFault::NotListing));
+    let mut no_text = Vec::from_slice(alloc, text.as_bytes())?;
+    no_text[129] = 0xff;
+    assert!(rt; Listing::read(alloc, no_text.as_slice()).err() == Some(ListingFault::NotListing));
     Ok(())
 }

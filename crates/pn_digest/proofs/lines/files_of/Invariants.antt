@@ -1,0 +1,9 @@
+use Rattle.std.proofs.Common.{length}
+use Rattle.pn_digest.proofs.LineTexts.{IsReading}
+use Rattle.pn_digest.proofs.lines.files_of.Given as goal
+
+abbrev pub invariant-lines : goal.invariant-lines
+invariant-lines l = IsReading l.bytes l.rest l.files.items
+
+abbrev pub decreases-lines : goal.decreases-lines
+decreases-lines l = length l.rest
