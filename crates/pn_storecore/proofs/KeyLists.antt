@@ -86,5 +86,6 @@ pub bare : (f : Folder) (w : StoreWorld) (k : ℕ) (b : Bool) → Some f ≡ get
 bare f w k b is empty = (λ yes m. at m ∙ ap (λ es. lookup (is_at (nat_cmp m)) es) (nil (empty.0 yes)), λ none. empty.1 (ap length (nil_from_lookup (eq_by_cmp_equiv nat_cmp_total) f.files.entries (λ m. sym (at m) ∙ none m)))) where
   at : (m : ℕ) → content (world_in w) k m ≡ get nat_cmp f.files m
   at m = ap (λ o. option_and_then (λ (t : Temp). t.files m) (option_map temp_in o)) (sym is)
+
   nil : length f.files.entries ≡ 0 → f.files.entries ≡ []
   nil h = elim f.files.entries as (λ es. length es ≡ 0 → es ≡ []) [ [] ↦ λ e. refl | (x ∷ es) ↦ λ e. absurd (omega (arith, e)) ] h

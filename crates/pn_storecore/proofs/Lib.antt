@@ -7,3 +7,4 @@ pub mod Journals
 pub mod KeyLists
 pub mod Own
 pub mod Standing
+pub mod Behind

@@ -9,3 +9,4 @@ pub mod Maps
 pub mod Kept
 pub mod Sets
 pub mod Told
+pub mod Came

@@ -7,12 +7,15 @@
 #![tactic(auto)]
 
 mod bytes;
+mod check;
 mod conditions;
 mod disk;
 mod folder;
 mod laws;
 mod ledger;
+mod mem;
 mod objects;
+mod others;
 mod piece;
 mod step;
 mod sure;
@@ -23,6 +26,7 @@ mod world;
 pub use bytes::Bytes;
 pub use disk::StoreDisk;
 pub use laws::{owner_law, place_law, published_law, sound_law};
+pub use mem::MemStore;
 pub use step::{Discard, Place, StoreStep};
 pub use sure::SureStore;
 

@@ -3,11 +3,13 @@ ghost use Rattle.std.specs.Prelude.{◌≡◌, ◌⊎◌, ◌++◌, ◌∷◌, [
 ghost use Rattle.pn_storecore.specs.Steps.{world_of};
 ghost use Rattle.pn_storecore.specs.Lawful.{IsLawful, IsDiscard};
 ghost use Rattle.pn_storecore.specs.Seen.{Seen, fresh};
+ghost use Rattle.pn_storecore.specs.Came.{OthersCame};
 ghost use Rattle.pn_storecore.specs.Told.{told_lawful};
 
 use crate::bytes::Bytes;
 use crate::disk::StoreDisk;
 use crate::ledger::Ledger;
+use crate::others::others_come;
 use crate::step::{Discard, Place, StoreStep};
 use crate::temps;
 use pn_digest::Digest;
@@ -42,6 +44,20 @@ impl SureStore {
         ensures cause { IfErr result (λ e. e ≡ DevFault.Memory) }
     {
         self.ledger.take(self.me, step)?;
+        Ok(())
+    }
+
+    /// Lets the steps of other installers come that stand before a call.
+    pub(crate) fn others_come(
+        &mut self,
+        call: u64,
+        others: &[(u64, u64, StoreStep)],
+    ) -> Result<(), DevFault>
+        ensures came { OthersCame self.old.me self.old.ledger.journal.items self.new.ledger.journal.items }
+        ensures me { self.new.me ≡ self.old.me }
+        ensures cause { IfErr result (λ e. e ≡ DevFault.Memory) }
+    {
+        others_come(self.alloc, &mut self.ledger, self.me, call, others)?;
         Ok(())
     }
 }
