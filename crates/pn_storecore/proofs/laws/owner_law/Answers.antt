@@ -1,0 +1,5 @@
+use Rattle.pn_storecore.proofs.Owners.{owners}
+use Rattle.pn_storecore.proofs.laws.owner_law.Goals as goal
+
+pub returns : goal.returns
+returns c = owners

@@ -1,0 +1,5 @@
+use Rattle.pn_storecore.proofs.Owners.{place}
+use Rattle.pn_storecore.proofs.laws.place_law.Goals as goal
+
+pub returns : goal.returns
+returns c = place

@@ -1,0 +1,5 @@
+use Rattle.pn_storecore.proofs.Published.{published}
+use Rattle.pn_storecore.proofs.laws.published_law.Goals as goal
+
+pub returns : goal.returns
+returns c = published

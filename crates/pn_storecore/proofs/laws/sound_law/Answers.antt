@@ -1,0 +1,5 @@
+use Rattle.pn_storecore.proofs.Published.{sound}
+use Rattle.pn_storecore.proofs.laws.sound_law.Goals as goal
+
+pub returns : goal.returns
+returns c = sound

@@ -1,0 +1,12 @@
+pub mod World
+pub mod Steps
+pub mod Lawful
+pub mod Sound
+pub mod Laws
+pub mod Seen
+pub mod Calls
+pub mod Maps
+pub mod Kept
+pub mod Sets
+pub mod Told
+pub mod Came

@@ -1,0 +1,34 @@
+//! The core of the content-addressed store that installers share without a lock.
+//!
+//! A store is a journal of steps, each made by one installer. The world that a journal makes has the
+//! files and the listings at their digests, and the temporary files of each number. Which steps are
+//! lawful is a definition, and the laws say what lawful steps of any number of installers, in any
+//! order, leave: a sound world, in which what was published stays.
+#![tactic(auto)]
+
+mod bytes;
+mod check;
+mod conditions;
+mod disk;
+mod folder;
+mod laws;
+mod ledger;
+mod mem;
+mod objects;
+mod others;
+mod piece;
+mod step;
+mod sure;
+mod temps;
+mod turns;
+mod world;
+
+pub use bytes::Bytes;
+pub use disk::StoreDisk;
+pub use laws::{owner_law, place_law, published_law, sound_law};
+pub use mem::MemStore;
+pub use step::{Discard, Place, StoreStep};
+pub use sure::SureStore;
+
+#[cfg(test)]
+mod tests;

@@ -1,0 +1,127 @@
+// A store in memory that never fails.
+ghost use Rattle.std.specs.Prelude.{◌≡◌, ◌⊎◌, ◌++◌, ◌∷◌, [], Some, OnOk, OnErr, IfErr};
+ghost use Rattle.pn_storecore.specs.Steps.{world_of};
+ghost use Rattle.pn_storecore.specs.Lawful.{IsLawful, IsDiscard};
+ghost use Rattle.pn_storecore.specs.Seen.{Seen, fresh};
+ghost use Rattle.pn_storecore.specs.Came.{OthersCame};
+ghost use Rattle.pn_storecore.specs.Told.{told_lawful};
+
+use crate::bytes::Bytes;
+use crate::disk::StoreDisk;
+use crate::ledger::Ledger;
+use crate::others::others_come;
+use crate::step::{Discard, Place, StoreStep};
+use crate::temps;
+use pn_digest::Digest;
+use pn_text::DevFault;
+use std::alloc::Global;
+
+/// A store in memory that one installer uses. No call fails: `Memory` is the only refusal.
+#[derive(Drop)]
+pub struct SureStore {
+    alloc: Global,
+    me: u64,
+    ledger: Ledger,
+}
+
+impl SureStore {
+    /// An empty store, for the installer with this number.
+    pub fn new(alloc: Global, me: u64) -> SureStore
+        ensures { ⟦<SureStore as StoreDisk>⟧.seen result ≡ fresh me }
+    {
+        SureStore {
+            alloc,
+            me,
+            ledger: Ledger::new(alloc),
+        }
+    }
+
+    fn make(&mut self, step: StoreStep) -> Result<(), DevFault>
+        requires { IsLawful self.old.me step (world_of self.old.ledger.journal.items) ⊎ IsDiscard step }
+        ensures ok { OnOk result (self.new.ledger.journal.items ≡ self.old.ledger.journal.items ++ (self.old.me, step) ∷ []) }
+        ensures err { OnErr result (self.new.ledger.journal.items ≡ self.old.ledger.journal.items) }
+        ensures me { self.new.me ≡ self.old.me }
+        ensures cause { IfErr result (λ e. e ≡ DevFault.Memory) }
+    {
+        self.ledger.take(self.me, step)?;
+        Ok(())
+    }
+
+    /// Lets the steps of other installers come that stand before a call.
+    pub(crate) fn others_come(
+        &mut self,
+        call: u64,
+        others: &[(u64, u64, StoreStep)],
+    ) -> Result<(), DevFault>
+        ensures came { OthersCame self.old.me self.old.ledger.journal.items self.new.ledger.journal.items }
+        ensures me { self.new.me ≡ self.old.me }
+        ensures cause { IfErr result (λ e. e ≡ DevFault.Memory) }
+    {
+        others_come(self.alloc, &mut self.ledger, self.me, call, others)?;
+        Ok(())
+    }
+}
+
+impl StoreDisk for SureStore {
+    ghost seen = { λ s. record { journal = Some s.ledger.journal.items; me = s.me; faults = 0 } };
+
+    ghost lawful = { λ s j told. told_lawful s.ledger.journal.items j s.ledger.lawful told };
+
+    fn claim(&mut self, k: u32) -> Result<bool, DevFault> {
+        let free = !self.ledger.world.stands(k);
+        self.make(StoreStep::Claim(k))?;
+        Ok(free)
+    }
+
+    fn create(&mut self, k: u32, n: u32) -> Result<(), DevFault> {
+        self.make(StoreStep::Create(k, n))
+    }
+
+    fn append(&mut self, k: u32, n: u32, bytes: &[u8]) -> Result<(), DevFault> {
+        let more = Bytes::of(self.alloc, bytes)?;
+        self.make(StoreStep::Append(k, n, more))
+    }
+
+    fn shard(&mut self, place: Place, first: u8) -> Result<(), DevFault> {
+        self.make(StoreStep::Shard(place, first))
+    }
+
+    fn publish_file(&mut self, k: u32, n: u32, at: &Digest) -> Result<(), DevFault> {
+        self.make(StoreStep::PublishFile(k, n, at.copy()))
+    }
+
+    fn publish_listing(&mut self, k: u32, n: u32, at: &Digest) -> Result<(), DevFault> {
+        self.make(StoreStep::PublishListing(k, n, at.copy()))
+    }
+
+    fn drop_temp(&mut self, k: u32, n: Option<u32>) -> Result<(), DevFault> {
+        self.make(StoreStep::DropTemp(k, n))
+    }
+
+    fn read(
+        &mut self,
+        place: Place,
+        at: &Digest,
+        from: u64,
+        into: &mut [u8],
+    ) -> Result<Option<usize>, DevFault> {
+        self.make(StoreStep::Read)?;
+        Ok(self.ledger.world.objects(place).read(at, from, into))
+    }
+
+    fn list(&mut self, place: Place) -> Result<Vec<Digest>, DevFault> {
+        let all = self.ledger.world.objects(place).addresses(self.alloc)?;
+        self.make(StoreStep::Read)?;
+        Ok(all)
+    }
+
+    fn numbers(&mut self) -> Result<Vec<u32>, DevFault> {
+        let all = temps::numbers(self.alloc, &self.ledger.world.temps)?;
+        self.make(StoreStep::Read)?;
+        Ok(all)
+    }
+
+    fn discard(&mut self, what: Discard) -> Result<(), DevFault> {
+        self.make(StoreStep::Discard(what))
+    }
+}
