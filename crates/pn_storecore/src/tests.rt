@@ -7,7 +7,8 @@ use std::alloc::Global;
 use std::test::Fail;
 
 // The text of the listing of one file `x` with the bytes `abc`.
-const LISTING: &[u8] = b"ddaf35a193617abacc417349ae20413112e6fa4e89a97ea20a9eeee64b55d39a2192992a274fc1a836ba3c23a3feebbd454d4423643ce80e2a9ac94fa54ca49f x\n";
+const LISTING: &[u8] =
+    b"ddaf35a193617abacc417349ae20413112e6fa4e89a97ea20a9eeee64b55d39a2192992a274fc1a836ba3c23a3feebbd454d4423643ce80e2a9ac94fa54ca49f x\n";
 
 fn digest(bytes: &[u8]) -> Digest {
     let mut hasher = Hasher512::new();
@@ -131,7 +132,10 @@ fn a_listed_call_fails(rt: HostRuntime) -> Result<(), Fail> {
     let mut into = [0u8; 2];
     assert_eq!(rt; disk.claim(0), Err(DevFault::Failed));
     assert_eq!(rt; disk.shard(Place::Files, 0), Err(DevFault::Failed));
-    assert_eq!(rt; disk.read(Place::Files, &at, 0, &mut into), Err(DevFault::Failed));
+    assert_eq!(rt;
+        disk.read(Place::Files, &at, 0, &mut into),
+        Err(DevFault::Failed)
+    );
     assert!(rt; disk.list(Place::Files).is_err());
     assert!(rt; disk.numbers().is_err());
     assert_eq!(rt; disk.discard(Discard::File(at)), Err(DevFault::Failed));
