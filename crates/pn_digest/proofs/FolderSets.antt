@@ -1,15 +1,9 @@
 -- How a set gets the folders above files.
-use Rattle.std.proofs.Common.{◌≡◌, ℕ, ◌+◌, ◌<◌, List, [], length, take, get_or, sym, ◌∙◌, subst, Bool, true, false, inl, inr}
+use Rattle.std.proofs.Common.{◌≡◌, ℕ, ◌+◌, ◌<◌, List, length, take, get_or, sym, subst, Bool, inl, inr}
 use Rattle.std.specs.Prelude.{◌⊎◌, ◌↔◌, IsTrue}
 use Rattle.pn_digest.specs.Listing.{Entry, IsRelPath, rel_text}
 use Rattle.pn_digest.specs.Folders.{IsFolderText, HasFolders}
-use Rattle.pn_digest.proofs.Elements.{none_in, in_front_more, still_in_front, now_in_front}
-
-pub has_none : (has : List ℕ → Bool) → ((t : List ℕ) → has t ≡ false) → HasFolders [] has
-has_none has none = record {
-  paths = λ e i. absurd (none_in e i);
-  exact = λ t. (λ h. let f : true ≡ false = sym h ∙ none t in cc, λ a. absurd (none_in a.0 a.1));
-}
+use Rattle.pn_digest.proofs.Elements.{in_front_more, still_in_front, now_in_front}
 
 pub has_more : (files : List Entry) (i : ℕ) (x : Entry) (old new : List ℕ → Bool) → i < length files → x ≡ get_or files i x → IsRelPath x.0 → HasFolders (take i files) old
     → ((t : List ℕ) → IsTrue (new t) ↔ (IsTrue (old t) ⊎ IsFolderText (rel_text x.0) t)) → HasFolders (take (i + 1) files) new

@@ -1,10 +1,8 @@
 -- The fronts of a text before its slashes.
 use Rattle.std.proofs.Common.{◌≡◌, ℕ, ◌+◌, ◌<◌, ◌≤◌, List, [], ◌∷◌, ◌++◌, length, take, drop, get_or, refl, sym, ap, ◌∙◌, subst, arith, Bool, true, false, cond, inl, inr, length-append}
 use Rattle.std.specs.Prelude.{◌⊎◌, ◌↔◌, ◌||◌, IsTrue, nat_lt}
-use Rattle.std.specs.Str.{bytes_eq}
 use Rattle.std.proofs.lemmas.List.{drop_more, take-append-drop}
 use Rattle.std.proofs.lemmas.Bool.Decides.{nat_tests}
-use Rattle.std.proofs.lemmas.Slice.Eq.{bytes_eq-Decides}
 use Rattle.pn_digest.specs.Folders.{IsFolderText}
 
 pub or_cond : (a b : Bool) → cond a true b ≡ (a || b)
@@ -27,9 +25,6 @@ IsFrontBefore path i t = (k : ℕ) × (k < i) × (get_or path k 0 ≡ 47) × (ta
 abbrev pub AddsFronts : (List ℕ → Bool) → (List ℕ → Bool) → List ℕ → ℕ → Type 0
 AddsFronts old new path i = (t : List ℕ) → IsTrue (new t) ↔ (IsTrue (old t) ⊎ IsFrontBefore path i t)
 
-pub adds_none : (old : List ℕ → Bool) (path : List ℕ) → AddsFronts old old path 0
-adds_none old path t = (λ h. inl h, λ h. elim h [ inl a ↦ a | inr f ↦ absurd (omega (arith, f.1)) ])
-
 later : (path : List ℕ) (i : ℕ) (t : List ℕ) → IsFrontBefore path i t → IsFrontBefore path (i + 1) t
 later path i t f = (f.0, omega (arith, f.1), f.2, f.3)
 
@@ -45,30 +40,6 @@ parted path i t f = elim (nat_lt f.0 i) as (λ b. nat_lt f.0 i ≡ b → IsFront
   | true ↦ λ e. inl (f.0, below f.0 i e, f.2, f.3)
   | false ↦ λ e. let same : f.0 ≡ i = last f.0 i e f.1 in inr (subst (λ k. get_or path k 0 ≡ 47) same f.2, subst (λ k. take k path ≡ t) same f.3)
 ] refl
-
-pub adds_no_more : (old new : List ℕ → Bool) (path : List ℕ) (i : ℕ) → AddsFronts old new path i → (get_or path i 0 ≡ 47 → ⊥) → AddsFronts old new path (i + 1)
-adds_no_more old new path i adds other t = (
-  λ h. elim ((adds t).0 h) [ inl a ↦ inl a | inr f ↦ inr (later path i t f) ],
-  λ h. elim h [
-    | inl a ↦ (adds t).1 (inl a)
-    | inr f ↦ elim (parted path i t f) [ inl g ↦ (adds t).1 (inr g) | inr g ↦ absurd (other g.0) ]
-  ],
-)
-
-pub adds_more : (old mid new : List ℕ → Bool) (path : List ℕ) (i : ℕ) → AddsFronts old mid path i → get_or path i 0 ≡ 47 → ((t : List ℕ) → new t ≡ (bytes_eq (take i path) t || mid t)) → AddsFronts old new path (i + 1)
-adds_more old mid new path i adds slash is t = (
-  λ h. elim (or_cases (bytes_eq (take i path) t) (mid t) (sym (is t) ∙ h)) [
-    | inl e ↦ inr (i, omega arith, slash, (bytes_eq-Decides (take i path) t).0 e)
-    | inr m ↦ elim ((adds t).0 m) [ inl a ↦ inl a | inr f ↦ inr (later path i t f) ]
-  ],
-  λ h. elim h [
-    | inl a ↦ is t ∙ or_right (bytes_eq (take i path) t) (mid t) ((adds t).1 (inl a))
-    | inr f ↦ elim (parted path i t f) [
-      | inl g ↦ is t ∙ or_right (bytes_eq (take i path) t) (mid t) ((adds t).1 (inr g))
-      | inr g ↦ is t ∙ ap (λ b. b || mid t) ((bytes_eq-Decides (take i path) t).1 g.1)
-    ]
-  ],
-)
 
 around : (text : List ℕ) (i : ℕ) → i < length text → get_or text i 0 ≡ 47 → text ≡ take i text ++ 47 ∷ drop (i + 1) text
 around text i within slash = sym (take-append-drop i text) ∙ ap (λ r. take i text ++ r) (drop_more text i 0 within ∙ ap (λ b. b ∷ drop (i + 1) text) slash)

@@ -1,12 +1,12 @@
 -- The parts of a file's line.
-use Rattle.std.proofs.Common.{◌≡◌, ℕ, List, ◌∷◌, ◌++◌, sym, ap, ◌∙◌, None, Some, false}
+use Rattle.std.proofs.Common.{◌≡◌, ℕ, List, ◌∷◌, sym, ◌∙◌, None, Some}
 use Rattle.std.specs.Prelude.{◌↔◌}
 use Rattle.hex.specs.Hex.{encode_lower}
 use Rattle.pn_digest.specs.Digests.{IsDigest}
-use Rattle.pn_digest.specs.Listing.{IsEntry, IsRelPath, rel_text, has_feed, line_text}
+use Rattle.pn_digest.specs.Listing.{rel_text}
 use Rattle.pn_digest.specs.Lines.{HasParts, IsFileLine, IsPathText}
 use Rattle.pn_digest.proofs.HexTexts.{length-hex}
-use Rattle.pn_digest.proofs.LineTexts.{parts_same, feed_behind}
+use Rattle.pn_digest.proofs.LineTexts.{parts_same}
 
 tail_same : (x y : ℕ) (xs ys : List ℕ) → x ∷ xs ≡ y ∷ ys → xs ≡ ys
 tail_same x y xs ys e = cc
@@ -33,14 +33,3 @@ no_digits line digits path h exact f = none_some f.0.1 ((exact f.0.1).1 ((parts_
 pub its_path : (line digits path : List ℕ) → HasParts line digits path → IsFileLine line → IsPathText path
 its_path line digits path h f =
     (f.0.0, f.1.path, tail_same 32 32 path (rel_text f.0.0) (parts_are line digits path h f).1)
-
--- a line of the right parts is a file's
-pub line_is : (line digits path : List ℕ) (p : List (List ℕ)) (d : List ℕ) → HasParts line digits path → digits ≡ encode_lower d → path ≡ rel_text p → line ≡ line_text (p, d)
-line_is line digits path p d h same is = h.whole ∙ ap (λ z. z ++ 32 ∷ path) same ∙ ap (λ z. encode_lower d ++ 32 ∷ z) is
-
-pub entry_is : (line digits path : List ℕ) (p : List (List ℕ)) (d : List ℕ) → HasParts line digits path → path ≡ rel_text p → IsRelPath p → IsDigest d → has_feed line ≡ false → IsEntry (p, d)
-entry_is line digits path p d h is good digest flat = record {
-  path = good;
-  one_line = ap has_feed (sym is) ∙ feed_behind digits (32 ∷ path) (ap has_feed (sym h.whole) ∙ flat);
-  digest = digest;
-}

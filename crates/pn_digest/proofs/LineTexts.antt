@@ -7,7 +7,7 @@ use Rattle.std.proofs.lemmas.List.Elements.{Contains-push_cases}
 use Rattle.hex.specs.Hex.{encode_lower}
 use Rattle.pn_digest.specs.Listing.{Entry, IsEntry, rel_text, has_feed, line_text, listing_text, ListingLaw}
 use Rattle.pn_digest.specs.Lines.{AreEntries, AreFileLines, BeginsWithFile, TakesFile, IsCut, IsFileLine}
-use Rattle.pn_digest.proofs.Elements.{none_in, here, there}
+use Rattle.pn_digest.proofs.Elements.{here, there}
 use Rattle.pn_digest.proofs.HexTexts.{length-hex, one_hex, no_feed_hex, both_false, right_false}
 use Rattle.pn_digest.proofs.RelPaths.{same_rel}
 
@@ -51,9 +51,6 @@ line_one a b ia ib e =
     let digest : a.1 ≡ b.1 = one_hex a.1 b.1 ia.digest ib.digest same.0 in
     let path : a.0 ≡ b.0 = same_rel a.0 b.0 ia.path ib.path (tail_same 32 32 (rel_text a.0) (rel_text b.0) same.1) in
     λ i. (path i, digest i)
-
-pub feed_behind : (xs ys : List ℕ) → has_feed (xs ++ ys) ≡ false → has_feed ys ≡ false
-feed_behind xs ys h = right_false (has_feed xs) (has_feed ys) (sym (list_any-append (λ b. b == 10) xs ys) ∙ h)
 
 not_empty : (a r : List ℕ) → [] ≡ a ++ 10 ∷ r → ⊥
 not_empty [] r e = cc e
@@ -103,9 +100,6 @@ text_push (e ∷ es) x = ap (λ t. line_text e ++ 10 ∷ t) (text_push es x) ∙
 pub record IsReading (bytes rest : List ℕ) (files : List Entry) : Type 0 where
   pub whole : bytes ≡ listing_text files ++ rest
   pub entries : AreEntries files
-
-pub reading_start : (bytes : List ℕ) → IsReading bytes bytes []
-reading_start bytes = record { whole = refl; entries = λ e i. absurd (none_in e i) }
 
 pub reading_more : (bytes rest rest' : List ℕ) (old new : List Entry) → IsReading bytes rest old → TakesFile old new rest rest' → IsReading bytes rest' new
 reading_more bytes rest rest' old new r t = record {

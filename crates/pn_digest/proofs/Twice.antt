@@ -20,13 +20,6 @@ pub record NoneTwice (files : List Entry) (has : List ℕ → Bool) (i : ℕ) : 
   pub paths : (k : ℕ) (e : Entry) → k < i → slice_get files k ≡ Some e → IsRelPath e.0
   pub exact : (t : List ℕ) → IsTrue (has t) ↔ IsTextBefore files i t
 
-pub none_twice : (files : List Entry) (has : List ℕ → Bool) → ((t : List ℕ) → has t ≡ false) → NoneTwice files has 0
-none_twice files has none = record {
-  none = λ k lt. absurd (omega (arith, lt));
-  paths = λ k e lt. absurd (omega (arith, lt));
-  exact = λ t. (λ h. absurd (opposite (has t) h (none t)), λ b. absurd (omega (arith, b.2)));
-}
-
 module _ (files : List Entry) (has : List ℕ → Bool) (i : ℕ) (x : Entry) (before : NoneTwice files has i) (within : i < length files) (is : x ≡ get_or files i x) (path : IsRelPath x.0) where
   here : slice_get files i ≡ Some x
   here = at_place files i x within is
