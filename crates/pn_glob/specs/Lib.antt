@@ -1,0 +1,6 @@
+pub mod Gaps
+pub mod Bytes
+pub mod Matching
+pub mod Grammar
+pub mod Lists
+pub mod Steps

@@ -1,0 +1,7 @@
+//! Patterns of paths and of names, and what lists of them match.
+#![tactic(auto)]
+
+mod bytes;
+mod fault;
+mod kind;
+mod parts;
