@@ -1,7 +1,8 @@
 -- Gaps and what is tried behind them.
-use Rattle.std.proofs.Common.{◌≡◌, ℕ, Bool, true, false, List, [], ◌∷◌, refl, sym, ap, subst, ◌∙◌, inl, inr}
-use Rattle.std.specs.Prelude.{◌&&◌, ◌||◌, ◌⊎◌, if◌then◌else◌}
-use Rattle.std.proofs.lemmas.Bool.{cases_Bool}
+use Rattle.std.proofs.Common.{◌≡◌, ℕ, Bool, true, false, List, [], ◌∷◌, refl, sym, ap, subst, ◌∙◌, inl, inr, arith}
+use Rattle.std.specs.Prelude.{◌==◌, ◌&&◌, ◌||◌, ◌⊎◌, if◌then◌else◌}
+use Rattle.std.proofs.lemmas.Bool.{cases_Bool, eqb-true}
+use Rattle.std.proofs.lemmas.Bool.Decides.{nat_tests}
 use Rattle.pn_glob.specs.Gaps.{Rules, any_later, any_rest, first_and, is_end, matches}
 use Rattle.pn_glob.specs.Steps.{at_gap}
 
@@ -124,7 +125,7 @@ piece-unfit r c p a t g f = piece-is r c p g (a ∷ t) ∙ ap (λ z. z && matche
 pub rest-found : {A : Type 0} (skip : A → Bool) (f : List A → Bool) (t : List A) (m : Bool) → f t ≡ m → (any_later skip f t ≡ true → m ≡ true) → any_rest skip f t ≡ m
 rest-found skip f t true e h = rest-here skip f t e
 rest-found skip f t false e h = elim (cases_Bool (any_rest skip f t)) [
-  | inl yes ↦ elim (rest-split skip f t yes) [ inl this ↦ cc (sym e ∙ this) | inr later ↦ cc (h later) ]
+  | inl holds ↦ elim (rest-split skip f t holds) [ inl this ↦ cc (sym e ∙ this) | inr later ↦ cc (h later) ]
   | inr other ↦ other
   ]
 
@@ -136,3 +137,55 @@ rest-stop skip f a t e s = or_false (f (a ∷ t)) _ e ∙ ap (λ z. z && any_res
 
 pub at-gap-end : {C A : Type 0} (r : Rules C A) (t : List A) (p : List C) → p ≡ [] → at_gap r p t ≡ true → matches r p t ≡ true
 at-gap-end {C} {A} r t p e h = subst (λ (q : List C). matches r q t ≡ true) (sym e) (subst (λ (q : List C). at_gap r q t ≡ true) e h)
+
+-- a step of the matcher
+pub on-step : {C A : Type 0} (r : Rules C A) → Steady r → (left p : List C) (rest t : List A) (c : C) (a : A) → left ≡ c ∷ p → rest ≡ a ∷ t → r.is_gap c ≡ false → r.fits c a ≡ true
+    → (matches r left rest ≡ matches r p t) × (any_later r.may_skip (matches r left) rest ≡ true → any_later r.may_skip (matches r p) t ≡ true)
+on-step {C} {A} r steady left p rest t c a el er g f =
+    subst (λ (q : List C). (matches r q rest ≡ matches r p t) × (any_later r.may_skip (matches r q) rest ≡ true → any_later r.may_skip (matches r p) t ≡ true)) (sym el)
+    (subst (λ (s : List A). (matches r (c ∷ p) s ≡ matches r p t) × (any_later r.may_skip (matches r (c ∷ p)) s ≡ true → any_later r.may_skip (matches r p) t ≡ true)) (sym er)
+    (piece-step r c p a t g f, later-step r steady c p a t g f))
+
+pub on-gap : {C A : Type 0} (r : Rules C A) (left p : List C) (rest : List A) (c : C) → left ≡ c ∷ p → r.is_gap c ≡ true
+    → (at_gap r left rest ≡ true) × (any_later r.may_skip (matches r left) rest ≡ true → matches r left rest ≡ true)
+on-gap {C} {A} r left p rest c e g =
+    subst (λ (q : List C). (at_gap r q rest ≡ true) × (any_later r.may_skip (matches r q) rest ≡ true → matches r q rest ≡ true)) (sym e)
+    (g, later-gap r c p rest g)
+
+-- where a step is not to be made
+pub on-end : {C A : Type 0} (r : Rules C A) (left p : List C) (rest : List A) (c : C) → left ≡ c ∷ p → rest ≡ [] → r.is_gap c ≡ false → matches r left rest ≡ false
+on-end {C} {A} r left p rest c el er g = subst (λ (q : List C). matches r q rest ≡ false) (sym el)
+    (subst (λ (s : List A). matches r (c ∷ p) s ≡ false) (sym er) (piece-end r c p g))
+
+pub on-unfit : {C A : Type 0} (r : Rules C A) (left p : List C) (rest t : List A) (c : C) (a : A) → left ≡ c ∷ p → rest ≡ a ∷ t → r.is_gap c ≡ false → r.fits c a ≡ false
+    → matches r left rest ≡ false
+on-unfit {C} {A} r left p rest t c a el er g f = subst (λ (q : List C). matches r q rest ≡ false) (sym el)
+    (subst (λ (s : List A). matches r (c ∷ p) s ≡ false) (sym er) (piece-unfit r c p a t g f))
+
+-- a pattern at its end
+pub on-empty : {C A : Type 0} (r : Rules C A) (left : List C) (rest : List A) → left ≡ [] → matches r left rest ≡ is_end rest
+on-empty {C} {A} r left rest e = ap (λ (q : List C). matches r q rest) e
+
+-- a pattern whose gap comes next
+pub behind-gap : {C A : Type 0} (r : Rules C A) (left p : List C) (rest : List A) (c : C) → left ≡ c ∷ p → at_gap r left rest ≡ true
+    → matches r left rest ≡ any_rest r.may_skip (matches r p) rest
+behind-gap {C} {A} r left p rest c e g =
+    ap (λ (q : List C). matches r q rest) e ∙ gap-is r c p (subst (λ (q : List C). at_gap r q rest ≡ true) e g) rest
+
+-- a place of the text passed over
+pub next-place : {A : Type 0} (skip : A → Bool) (f : List A → Bool) (rest t : List A) (a : A) → rest ≡ a ∷ t → f rest ≡ false → skip a ≡ true → any_rest skip f rest ≡ any_rest skip f t
+next-place {A} skip f rest t a e h s =
+    ap (any_rest skip f) e ∙ rest-on skip f a t (subst (λ (y : List A). f y ≡ false) e h) s
+
+pub last-place : {A : Type 0} (skip : A → Bool) (f : List A → Bool) (rest : List A) → rest ≡ [] → f rest ≡ false → any_rest skip f rest ≡ false
+last-place {A} skip f rest e h = ap (any_rest skip f) e ∙ subst (λ (y : List A). f y ≡ false) e h
+
+pub barred-place : {A : Type 0} (skip : A → Bool) (f : List A → Bool) (rest t : List A) (a : A) → rest ≡ a ∷ t → f rest ≡ false → skip a ≡ false → any_rest skip f rest ≡ false
+barred-place {A} skip f rest t a e h s =
+    ap (any_rest skip f) e ∙ rest-stop skip f a t (subst (λ (y : List A). f y ≡ false) e h) s
+
+pub eq-true : (b n : ℕ) → b ≡ n → (b == n) ≡ true
+eq-true b n h = grind (arith, nat_tests, h)
+
+pub eq-false : (b n : ℕ) → (b ≡ n → ⊥) → (b == n) ≡ false
+eq-false b n h = elim (cases_Bool (b == n)) [ inl same ↦ absurd (h (eqb-true b n same)) | inr other ↦ other ]

@@ -4,3 +4,4 @@ pub mod Matching
 pub mod Grammar
 pub mod Lists
 pub mod Steps
+pub mod Reading

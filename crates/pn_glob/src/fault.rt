@@ -41,3 +41,12 @@ impl<T: Drop> From<AllocFailed<T>> for Stop {
         Stop::Memory
     }
 }
+
+/// Why one pattern of a list isn't read.
+#[derive(Clone, Copy, Debug, PartialEq, Eq)]
+pub enum Bad {
+    /// The place in the pattern.
+    At(usize),
+    TooMany,
+    Memory,
+}

@@ -2,6 +2,8 @@
 #![tactic(auto)]
 
 mod bytes;
+mod choices;
 mod fault;
 mod kind;
 mod parts;
+mod paths;

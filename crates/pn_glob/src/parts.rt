@@ -35,7 +35,7 @@ impl<'a> Parts<'a> {
 
     /// The first part and those behind it.
     pub(crate) fn next(self) -> Option<(&'a [u8], Parts<'a>)>
-        ensures { MatchOption result (left_of self ≡ []) (λ r. left_of self ≡ r.0.now ∷ left_of r.1) }
+        ensures { MatchOption result (left_of self.entry ≡ []) (λ r. left_of self.entry ≡ r.0.now ∷ left_of r.1) }
     {
         let text = self.text?;
         let rest = behind_part(text);
