@@ -1,3 +1,4 @@
 pub mod Gaps
 pub mod PartSteps
 pub mod Braces
+pub mod Heads

@@ -3,5 +3,6 @@ pub mod Bytes
 pub mod Matching
 pub mod Grammar
 pub mod Lists
+pub mod ListSteps
 pub mod Steps
 pub mod Reading

@@ -50,45 +50,6 @@ pub record OpenedAt (cs : List (List ℕ)) (text : List ℕ) (ds : List (List �
   pub split : text ≡ front ++ rest
   pub opened : Opened cs front ds
 
--- a brace that ends in a text, behind texts
-pub record Closed (cs : List (List ℕ)) (text : List ℕ) (ds : List (List ℕ)) (rest : List ℕ) : Type 0 where
-  pub inner : List ℕ
-  pub split : text ≡ inner ++ 125 ∷ rest
-  pub chosen : Chosen cs inner ds
-  pub few : length ds ≤ 64
-
-pub record ManyIn (cs : List (List ℕ)) (text : List ℕ) : Type 0 where
-  pub inner : List ℕ
-  pub after : List ℕ
-  pub texts : List (List ℕ)
-  pub split : text ≡ inner ++ after
-  pub chosen : Chosen cs inner texts
-  pub ends : ends_choice after ≡ true
-  pub many : 64 < length texts
-
-pub record BadIn (cs : List (List ℕ)) (text : List ℕ) (left : ℕ) : Type 0 where
-  pub inner : List ℕ
-  pub byte : ℕ
-  pub after : List ℕ
-  pub texts : List (List ℕ)
-  pub split : text ≡ inner ++ byte ∷ after
-  pub chosen : Chosen cs inner texts
-  pub bracket : is_bracket byte ≡ true
-  pub other : (byte == 125) ≡ false
-  pub place : left ≡ length (byte ∷ after)
-
--- why a brace isn't read
-abbrev pub NotClosed : List (List ℕ) → List ℕ → Stop → Type 0
-NotClosed cs text stop.End = (ds : List (List ℕ)) × Chosen cs text ds
-NotClosed cs text (stop.Byte left) = BadIn cs text left
-NotClosed cs text stop.TooMany = ManyIn cs text
-NotClosed cs text stop.Memory = Unit {0}
-
--- bytes that are no brackets, behind texts
-pub record PlainAt (cs : List (List ℕ)) (text : List ℕ) (ds : List (List ℕ)) (rest : List ℕ) : Type 0 where
-  pub run : FrontOf is_plain text rest
-  pub texts : ds ≡ each_with cs run.front
-
 -- a piece of a pattern, behind texts
 pub record Grown (cs : List (List ℕ)) (text : List ℕ) (ds : List (List ℕ)) (rest : List ℕ) : Type 0 where
   pub front : List ℕ

@@ -1,9 +1,9 @@
 // Reading of path patterns: the texts without braces that they stand for.
-ghost use Rattle.std.specs.Prelude.{◌≡◌, ◌++◌, ◌∷◌, ℕ, List, [], map, IfOk, IfErr, OnOk, true, false};
+ghost use Rattle.std.specs.Prelude.{◌≡◌, ◌++◌, ◌∷◌, ◌<◌, ◌≤◌, ℕ, List, [], length, map, IfOk, IfErr, OnOk, true, false};
 ghost use Rattle.std.specs.List.{list_all};
 ghost use Rattle.pn_glob.specs.Bytes.{is_bracket};
 ghost use Rattle.pn_glob.specs.Grammar.{Spells, each_with, is_inner, is_plain};
-ghost use Rattle.pn_glob.specs.Reading.{ChoiceAt, Closed, FrontOf, Grown, NoChoice, NotClosed, PlainAt, Stops, StopsIn};
+ghost use Rattle.pn_glob.specs.Reading.{ChoiceAt, FrontOf, Grown, NoChoice, Stops, StopsIn, starts_with};
 
 use crate::bytes::next;
 use crate::fault::Stop;
@@ -64,7 +64,7 @@ fn choice(text: &[u8]) -> Result<(&[u8], u8, &[u8]), Stop>
     Ok((text.split_at(text.len() - rest.len()).0, b, behind))
 }
 
-pub(crate) fn joined(alloc: Global, text: &[u8], more: &[u8]) -> Result<Vec<u8>, Stop>
+fn joined(alloc: Global, text: &[u8], more: &[u8]) -> Result<Vec<u8>, Stop>
     ensures ok { IfOk result (λ v. v.items ≡ text.now ++ more.now) }
     ensures err { IfErr result (λ s. s ≡ Stop.Memory) }
 {
@@ -94,21 +94,27 @@ fn push_each(
     Ok(())
 }
 
+fn are_many(texts: &[Vec<u8>]) -> bool
+    ensures { (result ≡ true → 64 < length texts.now) × (result ≡ false → length texts.now ≤ 64) }
+{
+    texts.len() > 64
+}
+
 // The texts with each choice of a brace behind them, and what is behind the brace.
 fn brace<'a>(
     alloc: Global,
     texts: &[Vec<u8>],
     text: &'a [u8],
 ) -> Result<(Vec<Vec<u8>>, &'a [u8]), Stop>
-    ensures ok { IfOk result (λ r. Closed (map (λ v. v.items) texts.now) text.now (map (λ v. v.items) r.0.items) r.1.now) }
-    ensures err { IfErr result (NotClosed (map (λ v. v.items) texts.now) text.now) }
+    ensures ok { IfOk result (λ r. Grown (map (λ v. v.items) texts.now) (123 ∷ text.now) (map (λ v. v.items) r.0.items) r.1.now) }
+    ensures err { IfErr result (StopsIn (map (λ v. v.items) texts.now) (123 ∷ text.now)) }
 {
     let mut grown = Vec::new(alloc);
     let mut rest = text;
     'choices: loop {
         let (more, b, behind) = choice(rest)?;
         push_each(alloc, texts, more, &mut grown)?;
-        if grown.len() > 64 {
+        if are_many(&grown) {
             return Err(Stop::TooMany);
         }
         if b == b'}' {
@@ -124,7 +130,8 @@ fn plain<'a>(
     texts: &[Vec<u8>],
     text: &'a [u8],
 ) -> Result<(Vec<Vec<u8>>, &'a [u8]), Stop>
-    ensures ok { IfOk result (λ r. PlainAt (map (λ v. v.items) texts.now) text.now (map (λ v. v.items) r.0.items) r.1.now) }
+    requires { starts_with is_plain text.now ≡ true }
+    ensures ok { IfOk result (λ r. Grown (map (λ v. v.items) texts.now) text.now (map (λ v. v.items) r.0.items) r.1.now) }
     ensures err { IfErr result (λ s. s ≡ Stop.Memory) }
 {
     let rest = behind_plain(text);
@@ -152,6 +159,18 @@ fn piece<'a>(
         return Err(Stop::Byte(text.len()));
     }
     plain(alloc, texts, text)
+}
+
+/// The text alone.
+pub(crate) fn single(alloc: Global, text: &[u8]) -> Result<Vec<Vec<u8>>, Stop>
+    ensures ok { IfOk result (λ v. map (λ v. v.items) v.items ≡ text.now ∷ []) }
+    ensures err { IfErr result (λ s. s ≡ Stop.Memory) }
+{
+    let mut copy = Vec::new(alloc);
+    copy.extend_from_slice(text)?;
+    let mut texts = Vec::new(alloc);
+    texts.push(copy)?;
+    Ok(texts)
 }
 
 fn empty_text(alloc: Global) -> Result<Vec<Vec<u8>>, Stop>

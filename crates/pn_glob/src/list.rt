@@ -1,8 +1,8 @@
 // Lists of patterns.
 ghost use Rattle.std.specs.Prelude.{◌≡◌, ◌++◌, ◌∷◌, ℕ, List, [], map, if◌then◌else◌, IfOk, IfErr, OnOk, true, false};
 ghost use Rattle.std.specs.List.{list_any};
-ghost use Rattle.pn_glob.specs.ListSteps.{Added, AllRead, IsBad};
-ghost use Rattle.pn_glob.specs.Lists.{AreNames, ArePaths, Refused, or_star};
+ghost use Rattle.pn_glob.specs.ListSteps.{Added, IsBad, fault_of};
+ghost use Rattle.pn_glob.specs.Lists.{AreNames, ArePaths, ReadAll, Refused, or_star};
 ghost use Rattle.pn_glob.specs.Matching.{Patterns, fits, list_matches};
 
 use crate::bytes::bytes_match;
