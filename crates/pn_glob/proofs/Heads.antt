@@ -1,7 +1,7 @@
 -- What is taken off the ends of patterns, and lists of them.
 use Rattle.std.proofs.Common.{◌≡◌, ◌≤◌, ◌<◌, ◌+◌, ◌-◌, ℕ, suc, Bool, true, false, List, [], ◌∷◌, ◌++◌, length, map, Vec, Global, refl, sym, ap, subst, ◌∙◌, inl, inr, arith, append_assoc, append-nil, length-append}
 use Rattle.std.specs.Prelude.{◌==◌, ◌&&◌, ◌||◌, ◌⊎◌, not, if◌then◌else◌}
-use Rattle.std.specs.List.{list_all}
+use Rattle.std.specs.List.{list_all, list_any}
 use Rattle.std.proofs.lemmas.Bool.{cases_Bool, eqb-true}
 use Rattle.pn_glob.specs.declared.fault.Bad.{Bad}
 use Rattle.pn_glob.specs.declared.fault.Bad.TheVariants as bad
@@ -14,6 +14,8 @@ use Rattle.pn_glob.specs.Grammar.{HasBadByte, HasMany, IsOpen, Spells, is_plain}
 use Rattle.pn_glob.specs.Lists.{HasBracket, IsBadAt, IsLarge, IsName, Met, ReadAll, Reads, Refused, before_slash, behind_bang, behind_dot, is_negative, moved, or_star, tail_of, none, positive, negative}
 use Rattle.pn_glob.specs.ListSteps.{Added, IsBad, ReadBefore, fault_of}
 use Rattle.pn_glob.specs.Reading.{FrontOf, Stops, starts_with}
+use Rattle.pn_glob.specs.Matching.{fits}
+use Rattle.pn_glob.proofs.Braces.{items_of}
 use Rattle.pn_glob.proofs.Gaps.{eq-false, eq-true}
 
 pub bang-some : (text r : List ℕ) → text ≡ 33 ∷ r → r ≡ behind_bang text
@@ -181,3 +183,15 @@ pub star-none : (ps ns : List (List ℕ)) → ns ≡ [] → ps ≡ or_star ps ns
 star-none [] [] h = refl
 star-none (p ∷ ps) [] h = refl
 star-none ps (n ∷ ns) h = cc h
+
+any-map : {A B : Type 0} (f : B → Bool) (m : A → B) (xs : List A) → list_any (λ x. f (m x)) xs ≡ list_any f (map m xs)
+any-map f m [] = refl
+any-map f m (x ∷ xs) = ap (λ z. f (m x) || z) (any-map f m xs)
+
+-- some of the patterns of a vector fits
+pub any-items : (kind : Kind) (bytes text : List ℕ) (vs items : List (Vec ℕ Global)) → bytes ≡ text → vs ≡ items
+    → list_any (λ (v : Vec ℕ Global). fits kind v.items bytes) vs ≡ list_any (λ p. fits kind p text) (items_of items)
+any-items kind bytes text vs items b v =
+    ap (λ (y : List ℕ). list_any (λ (v : Vec ℕ Global). fits kind v.items y) vs) b
+    ∙ ap (list_any (λ (v : Vec ℕ Global). fits kind v.items text)) v
+    ∙ any-map (λ p. fits kind p text) (λ (v : Vec ℕ Global). v.items) items

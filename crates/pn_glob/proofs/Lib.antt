@@ -2,3 +2,4 @@ pub mod Gaps
 pub mod PartSteps
 pub mod Braces
 pub mod Heads
+pub mod LawProofs

@@ -1,6 +1,7 @@
 pub mod Gaps
 pub mod Bytes
 pub mod Matching
+pub mod Laws
 pub mod Grammar
 pub mod Lists
 pub mod ListSteps

@@ -9,10 +9,15 @@ mod bytes;
 mod choices;
 mod fault;
 mod kind;
+mod laws;
 mod list;
 mod parts;
 mod paths;
 mod pattern;
 
 pub use fault::GlobFault;
+pub use laws::{literal_law, matching_law, negative_law, star_law};
 pub use list::PatternList;
+
+#[cfg(test)]
+mod tests;

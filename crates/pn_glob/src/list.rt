@@ -1,5 +1,5 @@
 // Lists of patterns.
-ghost use Rattle.std.specs.Prelude.{◌≡◌, ◌++◌, ◌∷◌, ℕ, List, [], map, if◌then◌else◌, IfOk, IfErr, OnOk, true, false};
+ghost use Rattle.std.specs.Prelude.{◌≡◌, ◌++◌, ◌∷◌, ℕ, List, [], map, if◌then◌else◌, MatchOption, IfOk, IfErr, OnOk, true, false};
 ghost use Rattle.std.specs.List.{list_any};
 ghost use Rattle.pn_glob.specs.ListSteps.{Added, IsBad, fault_of};
 ghost use Rattle.pn_glob.specs.Lists.{AreNames, ArePaths, ReadAll, Refused, or_star};
@@ -62,6 +62,12 @@ fn fault_of(index: usize, bad: Bad) -> GlobFault
     }
 }
 
+fn next_text(texts: &[Text]) -> Option<(&Text, &[Text])>
+    ensures { MatchOption result (texts.now ≡ []) (λ r. texts.now ≡ r.0.now ∷ r.1.now) }
+{
+    texts.split_first()
+}
+
 // Adds the texts of all patterns.
 fn add_all(
     alloc: Global,
@@ -77,7 +83,7 @@ fn add_all(
 {
     let mut index = 0;
     let mut left = texts;
-    'texts: while let Some((text, rest)) = left.split_first() {
+    'texts: while let Some((text, rest)) = next_text(left) {
         if let Err(bad) = add(alloc, kind, text.as_str().as_bytes(), positive, negative) {
             return Err(fault_of(index, bad));
         }
