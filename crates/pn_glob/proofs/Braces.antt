@@ -1,11 +1,11 @@
 -- The choices of braces.
 use Rattle.std.proofs.Common.{◌≡◌, ◌≤◌, ◌<◌, ◌+◌, ◌-◌, ℕ, suc, Bool, true, false, List, [], ◌∷◌, ◌++◌, length, map, take, Vec, Global, refl, sym, ap, subst, ◌∙◌, inl, inr, arith, Result, Ok, Err, IfErr, append_assoc, append-nil, length-append}
-use Rattle.std.specs.Prelude.{◌==◌, ◌&&◌, ◌||◌, ◌⊎◌, not}
+use Rattle.std.specs.Prelude.{◌==◌}
 use Rattle.std.specs.List.{list_all}
 use Rattle.std.specs.Result.{IsErrAnd}
-use Rattle.std.proofs.lemmas.Bool.{cases_Bool, eqb-true}
+use Rattle.std.proofs.lemmas.Bool.{eqb-true}
 use Rattle.pn_glob.specs.Bytes.{is_bracket}
-use Rattle.pn_glob.specs.Grammar.{Chosen, HasBadByte, HasMany, IsOpen, IsStopped, Spells, each_with, ends_choice, is_inner, is_plain, one, more, empty, plain, brace, outside, inside}
+use Rattle.pn_glob.specs.Grammar.{Chosen, Spells, each_with, ends_choice, is_inner, is_plain, one, more, empty, plain, brace, outside, inside}
 use Rattle.pn_glob.specs.Reading.{BadInner, ChoiceAt, FrontOf, Grown, NoChoice, Opened, OpenedAt, SpelledAt, Stops, StopsIn, starts_with, first, comma}
 use Rattle.pn_glob.specs.declared.fault.Stop.{Stop}
 use Rattle.pn_glob.specs.declared.fault.Stop.TheVariants as stop
@@ -107,8 +107,7 @@ bad-stops : (cs : List (List ℕ)) (text : List ℕ) (ds : List (List ℕ)) (res
 bad-stops cs text ds rest left o x = λ t s.
     let inner : List ℕ = o.front ++ x.front in
     let split : text ≡ inner ++ x.byte ∷ x.after = o.split ∙ ap (λ (y : List ℕ). o.front ++ y) x.split ∙ sym (append_assoc o.front x.front (x.byte ∷ x.after)) in
-    let whole : t ++ 123 ∷ text ≡ (t ++ 123 ∷ inner) ++ x.byte ∷ x.after = ap (λ (y : List ℕ). t ++ 123 ∷ y) split ∙ sym (append_assoc t (123 ∷ inner) (x.byte ∷ x.after)) in
-    (
+    let whole : t ++ 123 ∷ text ≡ (t ++ 123 ∷ inner) ++ x.byte ∷ x.after = ap (λ (y : List ℕ). t ++ 123 ∷ y) split ∙ sym (append_assoc t (123 ∷ inner) (x.byte ∷ x.after)) in (
       length (t ++ 123 ∷ inner),
       record {
         front = t ++ 123 ∷ inner;

@@ -54,7 +54,7 @@ rest-step skip f g lead (a ∷ t) h = elim (or_cases (f (a ∷ t)) (skip a && an
   | inl this ↦ lead (a ∷ t) this
   | inr later ↦ and_both (skip a) (any_rest skip g t) (and_left (skip a) _ later)
       (rest-later skip g t (rest-step skip f g lead t (and_right (skip a) _ later)))
-  ]
+]
 
 -- two gaps are one
 pub rest-join : {A : Type 0} (skip : A → Bool) (g : List A → Bool) (t : List A) → any_rest skip (any_rest skip g) t ≡ true → any_rest skip g t ≡ true
@@ -62,7 +62,7 @@ rest-join skip g [] h = h
 rest-join skip g (a ∷ t) h = elim (or_cases (any_rest skip g (a ∷ t)) (skip a && any_rest skip (any_rest skip g) t) h) [
   | inl this ↦ this
   | inr later ↦ or_right (g (a ∷ t)) _ (and_both (skip a) (any_rest skip g t) (and_left (skip a) _ later) (rest-join skip g t (and_right (skip a) _ later)))
-  ]
+]
 
 -- a test that the gap's items pass alike
 pub rest-alike : {A : Type 0} (skip : A → Bool) (f g : List A → Bool) → ((t : List A) → f t ≡ g t) → (t : List A) → any_rest skip f t ≡ any_rest skip g t
@@ -108,7 +108,7 @@ pub later-gap : {C A : Type 0} (r : Rules C A) (c : C) (p : List C) (t : List A)
     → any_later r.may_skip (matches r (c ∷ p)) t ≡ true → matches r (c ∷ p) t ≡ true
 later-gap r c p t g h = gap-is r c p g t
     ∙ rest-join r.may_skip (matches r p) t (rest-later r.may_skip (any_rest r.may_skip (matches r p)) t
-      (sym (later-alike r.may_skip (matches r (c ∷ p)) (any_rest r.may_skip (matches r p)) (gap-is r c p g) t) ∙ h))
+    (sym (later-alike r.may_skip (matches r (c ∷ p)) (any_rest r.may_skip (matches r p)) (gap-is r c p g) t) ∙ h))
 
 pub piece-step : {C A : Type 0} (r : Rules C A) (c : C) (p : List C) (a : A) (t : List A) → r.is_gap c ≡ false → r.fits c a ≡ true
     → matches r (c ∷ p) (a ∷ t) ≡ matches r p t
@@ -127,7 +127,7 @@ rest-found skip f t true e h = rest-here skip f t e
 rest-found skip f t false e h = elim (cases_Bool (any_rest skip f t)) [
   | inl holds ↦ elim (rest-split skip f t holds) [ inl this ↦ cc (sym e ∙ this) | inr later ↦ cc (h later) ]
   | inr other ↦ other
-  ]
+]
 
 pub rest-on : {A : Type 0} (skip : A → Bool) (f : List A → Bool) (a : A) (t : List A) → f (a ∷ t) ≡ false → skip a ≡ true → any_rest skip f (a ∷ t) ≡ any_rest skip f t
 rest-on skip f a t e s = or_false (f (a ∷ t)) _ e ∙ ap (λ z. z && any_rest skip f t) s

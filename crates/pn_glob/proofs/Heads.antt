@@ -1,22 +1,21 @@
 -- What is taken off the ends of patterns, and lists of them.
-use Rattle.std.proofs.Common.{◌≡◌, ◌≤◌, ◌<◌, ◌+◌, ◌-◌, ℕ, suc, Bool, true, false, List, [], ◌∷◌, ◌++◌, length, map, Vec, Global, refl, sym, ap, subst, ◌∙◌, inl, inr, arith, append_assoc, append-nil, length-append}
-use Rattle.std.specs.Prelude.{◌==◌, ◌&&◌, ◌||◌, ◌⊎◌, not, if◌then◌else◌}
+use Rattle.std.proofs.Common.{◌≡◌, ◌+◌, ◌-◌, ℕ, Bool, true, false, List, [], ◌∷◌, ◌++◌, length, map, Vec, Global, refl, sym, ap, subst, ◌∙◌, inl, inr, arith, append_assoc, append-nil, length-append}
+use Rattle.std.specs.Prelude.{◌==◌, ◌&&◌, ◌||◌, not, if◌then◌else◌}
 use Rattle.std.specs.List.{list_all, list_any}
-use Rattle.std.proofs.lemmas.Bool.{cases_Bool, eqb-true}
+use Rattle.std.proofs.lemmas.Bool.{cases_Bool}
 use Rattle.pn_glob.specs.declared.fault.Bad.{Bad}
 use Rattle.pn_glob.specs.declared.fault.Bad.TheVariants as bad
-use Rattle.pn_glob.specs.declared.fault.GlobFault.{GlobFault}
 use Rattle.pn_glob.specs.declared.fault.Stop.TheVariants as stop
 use Rattle.pn_glob.specs.declared.kind.Kind.{Kind}
 use Rattle.pn_glob.specs.declared.kind.Kind.TheVariants.{Paths, Names}
 use Rattle.pn_glob.specs.Bytes.{is_bracket}
 use Rattle.pn_glob.specs.Grammar.{HasBadByte, HasMany, IsOpen, Spells, is_plain}
-use Rattle.pn_glob.specs.Lists.{HasBracket, IsBadAt, IsLarge, IsName, Met, ReadAll, Reads, Refused, before_slash, behind_bang, behind_dot, is_negative, moved, or_star, tail_of, none, positive, negative}
+use Rattle.pn_glob.specs.Lists.{HasBracket, IsName, Met, ReadAll, Reads, Refused, before_slash, behind_bang, behind_dot, is_negative, or_star, tail_of, none, positive, negative}
 use Rattle.pn_glob.specs.ListSteps.{Added, IsBad, ReadBefore, fault_of}
 use Rattle.pn_glob.specs.Reading.{FrontOf, Stops, starts_with}
 use Rattle.pn_glob.specs.Matching.{fits}
 use Rattle.pn_glob.proofs.Braces.{items_of}
-use Rattle.pn_glob.proofs.Gaps.{eq-false, eq-true}
+use Rattle.pn_glob.proofs.Gaps.{eq-false}
 
 pub bang-some : (text r : List ℕ) → text ≡ 33 ∷ r → r ≡ behind_bang text
 bang-some text r h = sym (ap behind_bang h)
@@ -68,9 +67,12 @@ pub byte-bad : (text tail body : List ℕ) (left : ℕ) → tail ≡ tail_of Pat
     → IsBad Paths text (bad.At (length text - length tail + (length body - left)))
 byte-bad text tail body left t b h =
     let e : body ≡ before_slash (tail_of Paths text) = b ∙ ap before_slash t in
-    inl (h.0, subst (λ (y : List ℕ). HasBadByte y h.0) e h.1,
+    inl (
+      h.0,
+      subst (λ (y : List ℕ). HasBadByte y h.0) e h.1,
       ap (λ (y : List ℕ). length text - length y + (length body - left)) t
-      ∙ ap (λ z. length text - length (tail_of Paths text) + z) (let s = h.2 in let g : length body - left ≡ h.0 = omega arith in g))
+          ∙ ap (λ z. length text - length (tail_of Paths text) + z) (let s = h.2 in let g : length body - left ≡ h.0 = omega arith in g),
+    )
 
 pub end-bad : (text tail body : List ℕ) → tail ≡ tail_of Paths text → body ≡ before_slash tail → Stops body stop.End → IsBad Paths text (bad.At (length text))
 end-bad text tail body t b h = inr (subst (λ (y : List ℕ). IsOpen y) (b ∙ ap before_slash t) h, refl)
@@ -102,7 +104,7 @@ bracket-bad text body rest b behind t f e = (
     place = refl;
   },
   ap (λ (y : List ℕ). length text - length y + (length body - length rest)) t
-    ∙ ap (λ z. length text - length (behind_bang text) + z)
+      ∙ ap (λ z. length text - length (behind_bang text) + z)
       (let n = ap (λ (y : List ℕ). length y) f.split ∙ length-append f.front rest in let g : length body - length rest ≡ length f.front = omega arith in g),
 )
 
@@ -127,7 +129,7 @@ read-added kind ts ps ps' ns ns' t r a = elim (cases_Bool (is_negative t)) [
       (subst (λ (y : List (List ℕ)). ReadAll kind (ts ++ t ∷ []) ps y) (sym (a.negatives ∙ if_true (is_negative t) (ns ++ a.texts) ns neg)) (negative ts ps ns a.texts t r neg a.reads))
   | inr pos ↦ subst (λ (y : List (List ℕ)). ReadAll kind (ts ++ t ∷ []) y ns') (sym (a.positives ∙ if_false (is_negative t) ps (ps ++ a.texts) pos))
       (subst (λ (y : List (List ℕ)). ReadAll kind (ts ++ t ∷ []) (ps ++ a.texts) y) (sym (a.negatives ∙ if_false (is_negative t) (ns ++ a.texts) ns pos)) (positive ts ps ns a.texts t r pos a.reads))
-  ]
+]
 
 pub before-start : (kind : Kind) (texts ps ns : List (List ℕ)) → ps ≡ [] → ns ≡ [] → ReadBefore kind texts texts 0 ps ns
 before-start kind texts ps ns p n = record {

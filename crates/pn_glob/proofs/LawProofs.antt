@@ -1,9 +1,8 @@
 -- The laws of patterns.
 use Rattle.std.proofs.Common.{◌≡◌, ℕ, Bool, true, false, List, [], ◌∷◌, ◌++◌, refl, sym, ap, subst, ◌∙◌, inl, inr}
-use Rattle.std.specs.Prelude.{◌==◌, ◌&&◌, ◌||◌, ◌⊎◌, ◌↔◌, not, if◌then◌else◌}
+use Rattle.std.specs.Prelude.{◌==◌, ◌&&◌, ◌||◌, not, if◌then◌else◌}
 use Rattle.std.specs.List.{list_all, list_any}
 use Rattle.std.proofs.lemmas.Bool.{cases_Bool, eqb-true}
-use Rattle.pn_glob.specs.declared.kind.Kind.{Kind}
 use Rattle.pn_glob.specs.declared.kind.Kind.TheVariants.{Paths, Names}
 use Rattle.pn_glob.specs.Bytes.{is_hidden, is_star, onto, parts}
 use Rattle.pn_glob.specs.Gaps.{Matches, Rules, any_rest, first_and, is_end, matches, end, gap, piece}
@@ -26,7 +25,7 @@ found-run skip test (a ∷ t) h = elim (or_cases (test (a ∷ t)) (skip a && any
   | inr later ↦
       let r = found-run skip test t (and_right (skip a) _ later) in
       record { run = a ∷ r.run; rest = r.rest; split = ap (λ y. a ∷ y) r.split; skipped = and_both (skip a) _ (and_left (skip a) _ later) r.skipped; holds = r.holds }
-  ]
+]
 
 run-found : {A : Type 0} (skip : A → Bool) (test : List A → Bool) (run t : List A) → list_all skip run ≡ true → test t ≡ true → any_rest skip test (run ++ t) ≡ true
 run-found skip test [] t s h = rest-here skip test t h
@@ -50,7 +49,7 @@ sound r [] (a ∷ t) h = cc h
 sound r (c ∷ p) t h = elim (cases_Bool (r.is_gap c)) [
   | inl g ↦ sound-gap r c p t (sound r p) g (sym (gap-is r c p g t) ∙ h)
   | inr g ↦ sound-piece r c p t (sound r p) g (sym (piece-is r c p g t) ∙ h)
-  ]
+]
 
 pub complete : {C A : Type 0} (r : Rules C A) (p : List C) (t : List A) → Matches r p t → matches r p t ≡ true
 complete r _ _ end = refl
@@ -123,7 +122,7 @@ no-parts [] h = cc h
 no-parts (b ∷ t) h = elim (cases_Bool (b == 47)) [
   | inl slash ↦ cc (sym (ap (λ z. if z then [] ∷ parts t else onto b (parts t)) slash) ∙ h)
   | inr other ↦ no-onto b (parts t) (sym (ap (λ z. if z then [] ∷ parts t else onto b (parts t)) other) ∙ h)
-  ]
+]
 
 onto-one : (b : ℕ) (xs : List (List ℕ)) (y : List ℕ) → (xs ≡ [] → ⊥) → onto b xs ≡ y ∷ [] → (x : List ℕ) × (xs ≡ x ∷ []) × (y ≡ b ∷ x)
 onto-one b [] y some h = absurd (some refl)
@@ -137,7 +136,7 @@ one-part (b ∷ t) y h = elim (cases_Bool (b == 47)) [
   | inr other ↦
       let o = onto-one b (parts t) y (no-parts t) (sym (ap (λ z. if z then [] ∷ parts t else onto b (parts t)) other) ∙ h) in
       ap (λ (z : List ℕ). b ∷ z) (one-part t o.0 o.1) ∙ sym o.2
-  ]
+]
 
 star-part : (y : List ℕ) → part_fits (42 ∷ []) y ≡ not (is_hidden y)
 star-part y = ap (λ z. not (is_hidden y) && z) (star-any y) ∙ and-true (not (is_hidden y))

@@ -49,4 +49,4 @@ pub part-steady : Steady part_rules
 part-steady c a b g f s h = elim (cases_Bool (is_hidden c)) [
   | inl dot ↦ cc (hidden-match c a dot (and_right (is_hidden c || not (is_hidden a)) _ f), s)
   | inr other ↦ sym (or_false (is_hidden c) (not (is_hidden b)) other) ∙ and_left (is_hidden c || not (is_hidden b)) _ h
-  ]
+]

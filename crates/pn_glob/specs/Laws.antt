@@ -1,11 +1,11 @@
 -- Laws of patterns in the subject's own words.
-use Rattle.std.specs.Prelude.{◌≡◌, ◌↔◌, ◌&&◌, ◌||◌, not, ℕ, Bool, true, false, List, [], ◌∷◌, ◌++◌}
-use Rattle.std.specs.List.{list_all, list_any}
+use Rattle.std.specs.Prelude.{◌≡◌, ◌↔◌, ◌&&◌, not, ℕ, true, false, List, [], ◌∷◌, ◌++◌}
+use Rattle.std.specs.List.{list_all}
 use Rattle.pn_glob.specs.declared.kind.Kind.{Kind}
 use Rattle.pn_glob.specs.declared.kind.Kind.TheVariants.{Paths, Names}
 use Rattle.pn_glob.specs.Bytes.{is_hidden, is_star, parts}
 use Rattle.pn_glob.specs.Gaps.{Matches, matches}
-use Rattle.pn_glob.specs.Matching.{Patterns, byte_rules, fits, list_matches, part_rules}
+use Rattle.pn_glob.specs.Matching.{byte_rules, fits, list_matches, part_rules}
 
 -- Patterns match exactly what the relation of gaps and pieces says: names byte by byte, paths part by part.
 pub record MatchingLaw : Type 0 where
@@ -25,4 +25,4 @@ pub record StarLaw : Type 0 where
 abbrev pub NegativeLaw : Type 0
 NegativeLaw = (kind : Kind) (ps ns : List (List ℕ)) (n t : List ℕ)
     → list_matches record { kind = kind; positive = ps; negative = ns ++ n ∷ [] } t
-      ≡ (list_matches record { kind = kind; positive = ps; negative = ns } t && not (fits kind n t))
+    ≡ (list_matches record { kind = kind; positive = ps; negative = ns } t && not (fits kind n t))

@@ -1,10 +1,10 @@
 -- Words for the steps of the reader.
-use Rattle.std.specs.Prelude.{◌≡◌, ◌≤◌, ◌<◌, ℕ, ◌+◌, ◌==◌, ◌||◌, Bool, true, false, List, [], ◌∷◌, ◌++◌, length}
+use Rattle.std.specs.Prelude.{◌≡◌, ◌≤◌, ◌<◌, ℕ, ◌+◌, ◌==◌, Bool, true, false, List, [], ◌∷◌, ◌++◌, length}
 use Rattle.std.specs.List.{list_all}
 use Rattle.pn_glob.specs.declared.fault.Stop.{Stop}
 use Rattle.pn_glob.specs.declared.fault.Stop.TheVariants as stop
 use Rattle.pn_glob.specs.Bytes.{is_bracket}
-use Rattle.pn_glob.specs.Grammar.{Chosen, HasBadByte, HasMany, IsOpen, Spells, each_with, ends_choice, is_inner, is_plain}
+use Rattle.pn_glob.specs.Grammar.{Chosen, HasBadByte, HasMany, IsOpen, Spells, ends_choice, is_inner}
 
 abbrev pub starts_with : (ℕ → Bool) → List ℕ → Bool
 starts_with test [] = false

@@ -1,6 +1,5 @@
 -- Words for the steps of the matcher and of the reader.
-use Rattle.std.specs.Prelude.{◌≡◌, ◌≤◌, ◌<◌, ℕ, ◌+◌, ◌==◌, Bool, true, false, List, [], ◌∷◌, ◌++◌, length, Option, Some, None}
-use Rattle.std.specs.List.{list_all}
+use Rattle.std.specs.Prelude.{ℕ, Bool, List, [], ◌∷◌, Some, None}
 use Rattle.pn_glob.specs.declared.parts.Parts.{Parts}
 use Rattle.pn_glob.specs.Bytes.{parts}
 use Rattle.pn_glob.specs.Gaps.{Rules, is_end}

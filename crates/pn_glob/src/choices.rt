@@ -136,7 +136,12 @@ fn plain<'a>(
 {
     let rest = behind_plain(text);
     let mut grown = Vec::new(alloc);
-    push_each(alloc, texts, text.split_at(text.len() - rest.len()).0, &mut grown)?;
+    push_each(
+        alloc,
+        texts,
+        text.split_at(text.len() - rest.len()).0,
+        &mut grown,
+    )?;
     Ok((grown, rest))
 }
 

@@ -131,7 +131,10 @@ const REFUSED_PATHS: [(&str, GlobFault); 15] = [
     ("{a,b}{a,b}{a,b}{a,b}{a,b}{a,b}{a,b}", GlobFault::TooMany),
     ("{a,b}{a,b}{a,b}{a,b}{a,b}{a,b}{a,b}]", GlobFault::TooMany),
     ("a {a,b,c,d,e,f,g,h}{a,b,c,d,e,f,g,h,i}", GlobFault::TooMany),
-    ("[{a,b}{a,b}{a,b}{a,b}{a,b}{a,b}{a,b}", GlobFault::BadByte(0, 0)),
+    (
+        "[{a,b}{a,b}{a,b}{a,b}{a,b}{a,b}{a,b}",
+        GlobFault::BadByte(0, 0),
+    ),
 ];
 
 const REFUSED_NAMES: [(&str, GlobFault); 4] = [
@@ -156,11 +159,14 @@ fn refusals_name_the_first_place(rt: HostRuntime) -> Result<(), Fail> {
 
 const MANY_STARS: &str = "*a*a*a*a*a*a*a*a*a*a*a*a*a*a*a*a*a*a*a*a*a*a*a*a*a*a*a*a*a*a*b";
 
-const MANY_BYTES: &str = "aaaaaaaaaaaaaaaaaaaaaaaaaaaaaaaaaaaaaaaaaaaaaaaaaaaaaaaaaaaaaaaaaaaaaaaaaaaaaaaaaaaaaaaaaaaaaaaaaaaa";
+const MANY_BYTES: &str =
+    "aaaaaaaaaaaaaaaaaaaaaaaaaaaaaaaaaaaaaaaaaaaaaaaaaaaaaaaaaaaaaaaaaaaaaaaaaaaaaaaaaaaaaaaaaaaaaaaaaaaa";
 
-const MANY_GAPS: &str = "**/a/**/a/**/a/**/a/**/a/**/a/**/a/**/a/**/a/**/a/**/a/**/a/**/a/**/a/**/a/**/a/**/b";
+const MANY_GAPS: &str =
+    "**/a/**/a/**/a/**/a/**/a/**/a/**/a/**/a/**/a/**/a/**/a/**/a/**/a/**/a/**/a/**/a/**/b";
 
-const MANY_PARTS: &str = "a/a/a/a/a/a/a/a/a/a/a/a/a/a/a/a/a/a/a/a/a/a/a/a/a/a/a/a/a/a/a/a/a/a/a/a/a/a/a/a/a/a/a/a/a/a/a/a/a/a/a";
+const MANY_PARTS: &str =
+    "a/a/a/a/a/a/a/a/a/a/a/a/a/a/a/a/a/a/a/a/a/a/a/a/a/a/a/a/a/a/a/a/a/a/a/a/a/a/a/a/a/a/a/a/a/a/a/a/a/a/a";
 
 // A matcher that goes back to each wildcard would not end here.
 #[test]

@@ -1,4 +1,4 @@
-use Rattle.std.proofs.Common.{◌≡◌, ℕ, List, true, length, ap, arith, ◌∙◌, refl, sym}
+use Rattle.std.proofs.Common.{ℕ, List, length, ap, arith, ◌∙◌, refl, sym}
 use Rattle.pn_glob.specs.Matching.{byte_rules}
 use Rattle.pn_glob.proofs.Gaps.{eq-false, eq-true, on-gap, on-step}
 use Rattle.pn_glob.proofs.bytes.prefix.Goals as goal
@@ -12,7 +12,7 @@ pub bytes-preserved : goal.bytes-preserved
 bytes-preserved c =
     let i = c.bytes.invariant in
     let step = on-step (byte_rules c.args.kind) (λ x a b g f s h. refl) c.bytes.left.now c.in-Some.behind.now c.bytes.rest.now c.in_ok-b.after.now c.in-Some.c c.in_ok-b.b
-        c.in-Some.ensures c.in_ok-b.ensures (eq-false c.in-Some.c 42 c.if-c-eq42.false) (sym c.if-not-stands_for.ensures) in
+    c.in-Some.ensures c.in_ok-b.ensures (eq-false c.in-Some.c 42 c.if-c-eq42.false) (sym c.if-not-stands_for.ensures) in
     record {
       value = i.value ∙ step.0;
       first = λ h. step.1 (i.first h);

@@ -1,5 +1,4 @@
-use Rattle.std.proofs.Common.{◌≡◌, ◌++◌, ◌∷◌, [], ℕ, List, ap, sym, ◌∙◌, append_assoc}
-use Rattle.std.specs.Prelude.{not}
+use Rattle.std.proofs.Common.{◌++◌, ◌∷◌, [], ℕ, List, ap, sym, ◌∙◌, append_assoc}
 use Rattle.pn_glob.specs.Grammar.{is_inner}
 use Rattle.pn_glob.proofs.Braces.{front-more}
 use Rattle.pn_glob.proofs.choices.behind_choice.Goals as goal

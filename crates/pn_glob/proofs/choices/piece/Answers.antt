@@ -1,4 +1,4 @@
-use Rattle.std.proofs.Common.{◌≡◌, ℕ, List, Vec, Global, IfOk, IfErr, true, ap, sym, ◌∙◌, subst}
+use Rattle.std.proofs.Common.{ℕ, List, IfOk, IfErr, ap, sym, ◌∙◌, subst}
 use Rattle.std.specs.Prelude.{not}
 use Rattle.pn_glob.specs.Grammar.{is_plain}
 use Rattle.pn_glob.specs.Reading.{Grown, StopsIn, starts_with}

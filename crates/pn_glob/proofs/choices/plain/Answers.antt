@@ -1,4 +1,4 @@
-use Rattle.std.proofs.Common.{◌≡◌, ◌++◌, ℕ, List, Vec, Global, ap, ◌∙◌}
+use Rattle.std.proofs.Common.{◌++◌, ℕ, List, Vec, Global, ap, ◌∙◌}
 use Rattle.pn_glob.specs.Grammar.{each_with}
 use Rattle.pn_glob.proofs.Braces.{items_of, plain-grown}
 use Rattle.pn_glob.proofs.choices.plain.Goals as goal

@@ -1,4 +1,4 @@
-use Rattle.std.proofs.Common.{◌≡◌, ◌≤◌, ◌+◌, ℕ, List, Vec, Global, length}
+use Rattle.std.proofs.Common.{◌≤◌, ◌+◌, length}
 use Rattle.pn_glob.specs.ListSteps.{ReadBefore}
 use Rattle.pn_glob.proofs.Braces.{items_of}
 use Rattle.pn_glob.proofs.list.add_all.Given as goal

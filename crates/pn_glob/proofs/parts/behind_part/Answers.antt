@@ -1,9 +1,7 @@
-use Rattle.std.proofs.Common.{◌≡◌, ◌++◌, ◌∷◌, [], ℕ, List, true, false, ap, sym, ◌∙◌, refl, subst, append_assoc, append-nil}
-use Rattle.std.specs.Prelude.{◌==◌, not}
+use Rattle.std.proofs.Common.{◌++◌, ◌∷◌, [], ℕ, List, ap, sym, ◌∙◌, append_assoc}
 use Rattle.pn_glob.proofs.Gaps.{eq-false, eq-true}
 use Rattle.pn_glob.proofs.PartSteps.{at_slash, flat-more, parts-front}
 use Rattle.pn_glob.specs.Bytes.{parts}
-use Rattle.pn_glob.specs.Steps.{parts_behind}
 use Rattle.pn_glob.proofs.parts.behind_part.Goals as goal
 
 pub bytes-preserved : goal.bytes-preserved

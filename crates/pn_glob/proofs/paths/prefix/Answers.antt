@@ -1,4 +1,4 @@
-use Rattle.std.proofs.Common.{◌≡◌, ℕ, List, true, length, ap, arith, ◌∙◌, sym}
+use Rattle.std.proofs.Common.{ℕ, List, length, ap, arith, ◌∙◌, sym}
 use Rattle.pn_glob.specs.Matching.{part_rules}
 use Rattle.pn_glob.specs.Steps.{left_of}
 use Rattle.pn_glob.proofs.Gaps.{on-gap, on-step}
@@ -14,7 +14,7 @@ pub parts-preserved : goal.parts-preserved
 parts-preserved c =
     let i = c.parts.invariant in
     let step = on-step part_rules part-steady (left_of c.parts.left) (left_of c.in-Some.behind) (left_of c.parts.rest) (left_of c.in_ok-part.after) c.in-Some.piece.now c.in_ok-part.part.now
-        c.in-Some.ensures c.in_ok-part.ensures (sym c.if-is_gap.ensures) (sym c.if-not-part_fits.ensures) in
+    c.in-Some.ensures c.in_ok-part.ensures (sym c.if-is_gap.ensures) (sym c.if-not-part_fits.ensures) in
     record {
       value = i.value ∙ step.0;
       first = λ h. step.1 (i.first h);

@@ -1,4 +1,3 @@
-use Rattle.std.proofs.Common.{◌≡◌}
 use Rattle.pn_glob.proofs.Heads.{slash-none, slash-some}
 use Rattle.pn_glob.proofs.pattern.before_slash.Goals as goal
 
