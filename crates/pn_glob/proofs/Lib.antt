@@ -1,0 +1,5 @@
+pub mod Gaps
+pub mod PartSteps
+pub mod Braces
+pub mod Heads
+pub mod LawProofs

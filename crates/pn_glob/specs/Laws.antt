@@ -1,0 +1,28 @@
+-- Laws of patterns in the subject's own words.
+use Rattle.std.specs.Prelude.{◌≡◌, ◌↔◌, ◌&&◌, not, ℕ, true, false, List, [], ◌∷◌, ◌++◌}
+use Rattle.std.specs.List.{list_all}
+use Rattle.pn_glob.specs.declared.kind.Kind.{Kind}
+use Rattle.pn_glob.specs.declared.kind.Kind.TheVariants.{Paths, Names}
+use Rattle.pn_glob.specs.Bytes.{is_hidden, is_star, parts}
+use Rattle.pn_glob.specs.Gaps.{Matches, matches}
+use Rattle.pn_glob.specs.Matching.{byte_rules, fits, list_matches, part_rules}
+
+-- Patterns match exactly what the relation of gaps and pieces says: names byte by byte, paths part by part.
+pub record MatchingLaw : Type 0 where
+  pub bytes : (kind : Kind) (p t : List ℕ) → (matches (byte_rules kind) p t ≡ true) ↔ Matches (byte_rules kind) p t
+  pub paths : (p t : List ℕ) → (fits Paths p t ≡ true) ↔ Matches part_rules (parts p) (parts t)
+
+-- A name pattern without `*` matches exactly its own text.
+abbrev pub LiteralLaw : Type 0
+LiteralLaw = (p t : List ℕ) → list_all (λ b. not (is_star b)) p ≡ true → (fits Names p t ≡ true) ↔ (p ≡ t)
+
+-- `*` matches each name, and exactly the paths of one part that doesn't begin with `.`.
+pub record StarLaw : Type 0 where
+  pub names : (t : List ℕ) → fits Names (42 ∷ []) t ≡ true
+  pub paths : (t : List ℕ) → (fits Paths (42 ∷ []) t ≡ true) ↔ ((parts t ≡ t ∷ []) × (is_hidden t ≡ false))
+
+-- A negative pattern takes away what it matches and nothing else.
+abbrev pub NegativeLaw : Type 0
+NegativeLaw = (kind : Kind) (ps ns : List (List ℕ)) (n t : List ℕ)
+    → list_matches record { kind = kind; positive = ps; negative = ns ++ n ∷ [] } t
+    ≡ (list_matches record { kind = kind; positive = ps; negative = ns } t && not (fits kind n t))
