@@ -24,11 +24,13 @@ mod turns;
 mod world;
 
 pub use bytes::Bytes;
+pub use conditions::FILE_LIMIT;
 pub use disk::StoreDisk;
 pub use laws::{owner_law, place_law, published_law, sound_law};
 pub use mem::MemStore;
 pub use step::{Discard, Place, StoreStep};
 pub use sure::SureStore;
+pub use world::StoreWorld;
 
 #[cfg(test)]
 mod tests;

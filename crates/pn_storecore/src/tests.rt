@@ -10,44 +10,39 @@ use std::test::Fail;
 const LISTING: &[u8] =
     b"ddaf35a193617abacc417349ae20413112e6fa4e89a97ea20a9eeee64b55d39a2192992a274fc1a836ba3c23a3feebbd454d4423643ce80e2a9ac94fa54ca49f x\n";
 
+// No step is skipped.
+const NONE: u64 = 99;
+
 fn digest(bytes: &[u8]) -> Digest {
     let mut hasher = Hasher512::new();
     hasher.push(bytes);
     hasher.end()
 }
 
-// What an installer does that puts a file and its listing into the store.
-fn install(alloc: Global) -> Result<Vec<StoreStep>, Fail> {
-    let file = digest(b"abc");
-    let listing = digest(LISTING);
-    let listings = listing.as_bytes()[0];
-    Ok(vec![in alloc;
-        StoreStep::Claim(0),
-        StoreStep::Create(0, 3),
-        StoreStep::Append(0, 3, Bytes::of(alloc, b"ab")?),
-        StoreStep::Append(0, 3, Bytes::of(alloc, b"c")?),
-        StoreStep::Shard(Place::Files, 0xdd),
-        StoreStep::PublishFile(0, 3, file),
-        StoreStep::Create(0, 4),
-        StoreStep::Append(0, 4, Bytes::of(alloc, LISTING)?),
-        StoreStep::Shard(Place::Listings, listings),
-        StoreStep::PublishListing(0, 4, listing),
-        StoreStep::DropTemp(0, None),
-    ]?)
+// What an installer does, step by step, that puts a file and its listing into the store.
+fn step_at(alloc: Global, i: u64) -> Result<StoreStep, Fail> {
+    match i {
+        0 => Ok(StoreStep::Claim(0)),
+        1 => Ok(StoreStep::Create(0, 3)),
+        2 => Ok(StoreStep::Append(0, 3, Bytes::of(alloc, b"ab")?)),
+        3 => Ok(StoreStep::Append(0, 3, Bytes::of(alloc, b"c")?)),
+        4 => Ok(StoreStep::Shard(Place::Files, 0xdd)),
+        5 => Ok(StoreStep::PublishFile(0, 3, digest(b"abc"))),
+        6 => Ok(StoreStep::Create(0, 4)),
+        7 => Ok(StoreStep::Append(0, 4, Bytes::of(alloc, LISTING)?)),
+        8 => Ok(StoreStep::Shard(Place::Listings, digest(LISTING).as_bytes()[0])),
+        9 => Ok(StoreStep::PublishListing(0, 4, digest(LISTING))),
+        _ => Ok(StoreStep::DropTemp(0, None)),
+    }
 }
 
-// A store where installer 2 makes the first of these steps, each before one call more than the last.
-fn beside(
-    alloc: Global,
-    steps: Vec<StoreStep>,
-    count: usize,
-    apart: u64,
-) -> Result<MemStore, Fail> {
+// A store where installer 2 makes these steps, each so many calls after the last.
+fn beside(alloc: Global, first: u64, end: u64, skipped: u64, apart: u64) -> Result<MemStore, Fail> {
     let mut others = Vec::new(alloc);
-    let mut call = 0u64;
-    for step in steps.iter().take(count) {
-        others.push((call, 2u64, step.copy(alloc)?))?;
-        call = call.saturating_add(apart);
+    for i in first..end {
+        if i != skipped {
+            others.push((i.saturating_mul(apart), 2u64, step_at(alloc, i)?))?;
+        }
     }
     Ok(MemStore::new(alloc, 1, others, Vec::new(alloc)))
 }
@@ -63,7 +58,7 @@ fn counts<D: StoreDisk>(disk: &mut D) -> Result<(usize, usize, usize), DevFault>
 #[test]
 fn another_installer_ends_first(rt: HostRuntime) -> Result<(), Fail> {
     let alloc = rt.alloc();
-    let mut disk = beside(alloc, install(alloc)?, 11, 0)?;
+    let mut disk = beside(alloc, 0, 11, NONE, 0)?;
     assert!(rt; disk.claim(0)?);
     assert_eq!(rt; counts(&mut disk)?, (1, 1, 1));
     let at = digest(b"abc");
@@ -78,7 +73,7 @@ fn another_installer_ends_first(rt: HostRuntime) -> Result<(), Fail> {
 #[test]
 fn another_installer_takes_turns(rt: HostRuntime) -> Result<(), Fail> {
     let alloc = rt.alloc();
-    let mut disk = beside(alloc, install(alloc)?, 11, 1)?;
+    let mut disk = beside(alloc, 0, 11, NONE, 1)?;
     assert!(rt; !disk.claim(0)?);
     assert!(rt; disk.claim(1)?);
     assert_eq!(rt; counts(&mut disk)?, (0, 0, 2));
@@ -90,7 +85,7 @@ fn another_installer_takes_turns(rt: HostRuntime) -> Result<(), Fail> {
 #[test]
 fn another_installer_stops_before_its_listing(rt: HostRuntime) -> Result<(), Fail> {
     let alloc = rt.alloc();
-    let mut disk = beside(alloc, install(alloc)?, 9, 0)?;
+    let mut disk = beside(alloc, 0, 9, NONE, 0)?;
     assert!(rt; !disk.claim(0)?);
     assert!(rt; disk.claim(1)?);
     assert_eq!(rt; counts(&mut disk)?, (1, 0, 2));
@@ -99,27 +94,20 @@ fn another_installer_stops_before_its_listing(rt: HostRuntime) -> Result<(), Fai
     Ok(())
 }
 
+// A file before its last piece, and a listing whose file doesn't stand.
 #[test]
-fn what_is_not_lawful_is_passed_over(rt: HostRuntime) -> Result<(), Fail> {
+fn what_is_not_whole_is_passed_over(rt: HostRuntime) -> Result<(), Fail> {
     let alloc = rt.alloc();
-    // a file before its last piece, and a listing whose file doesn't stand
-    let mut steps = install(alloc)?;
-    let _ = steps.remove(3);
-    let mut disk = beside(alloc, steps, 10, 0)?;
+    let mut disk = beside(alloc, 0, 11, 3, 0)?;
     assert_eq!(rt; counts(&mut disk)?, (0, 0, 1));
-    // all but the claim
-    let mut steps = install(alloc)?;
-    let _ = steps.remove(0);
-    let mut disk = beside(alloc, steps, 10, 0)?;
+    Ok(())
+}
+
+#[test]
+fn what_is_not_claimed_is_passed_over(rt: HostRuntime) -> Result<(), Fail> {
+    let alloc = rt.alloc();
+    let mut disk = beside(alloc, 1, 11, NONE, 0)?;
     assert_eq!(rt; counts(&mut disk)?, (0, 0, 0));
-    // a discard, and a step by the number of the store's own installer
-    let others = vec![in alloc;
-        (0, 2, StoreStep::Claim(0)),
-        (0, 2, StoreStep::Discard(Discard::Temp(0))),
-        (0, 1, StoreStep::Claim(1)),
-    ]?;
-    let mut disk = MemStore::new(alloc, 1, others, Vec::new(alloc));
-    assert_eq!(rt; counts(&mut disk)?, (0, 0, 1));
     Ok(())
 }
 
