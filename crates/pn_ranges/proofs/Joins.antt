@@ -14,7 +14,8 @@ use Rattle.pn_ranges.specs.Grammar as g
 use Rattle.pn_ranges.specs.Limits.{Limit}
 use Rattle.pn_ranges.specs.Places.{after, turn_of, first, later, start, closed, dash, gap, fault_comparator, first_fault}
 use Rattle.pn_ranges.specs.Overs.{HasOver}
-use Rattle.pn_ranges.specs.Reading.{ComparatorsAt, HyphenAt, LowerAt, RangeAt, SpacedAt, Stops, UpperAt, ends_range}
+use Rattle.pn_ranges.specs.Reading.{ComparatorsAt, HyphenAt, LowerAt, RangeAt, SpacedAt, Stops, UpperAt}
+use Rattle.pn_ranges.specs.Unread.{ends_range}
 use Rattle.pn_ranges.specs.Table.{Named, all_fit, between, limits, or_any}
 
 -- the automaton where a comparator comes, and where a range ends
@@ -44,10 +45,10 @@ later-turn true text = refl
 later-turn false text = refl
 
 -- faults that are passed on
-pub stops-fault : (f : Option Stop) (text : List ℕ) (s : Stop) → f ≡ Some s → Stops f text s
-stops-fault f text stop.Memory h = tt
-stops-fault f text (stop.Byte n) h = h
-stops-fault f text (stop.Number n) h = inl h
+pub stops-fault : (none : Type 0) (f : Option Stop) (text : List ℕ) (s : Stop) → f ≡ Some s → Stops none f text s
+stops-fault none f text stop.Memory h = tt
+stops-fault none f text (stop.Byte n) h = h
+stops-fault none f text (stop.Number n) h = inl h
 
 over-wider : (pre text whole : List ℕ) (n : ℕ) → whole ≡ pre ++ text → HasOver text n → HasOver whole n
 over-wider pre text whole n w h = record {
@@ -60,20 +61,21 @@ over-wider pre text whole n w h = record {
   place = h.place;
 }
 
-pub stops-from : (f f' : Option Stop) (pre text whole : List ℕ) (s : Stop) → f ≡ f' → whole ≡ pre ++ text → Stops f' text s → Stops f whole s
-stops-from f f' pre text whole stop.Memory e w h = tt
-stops-from f f' pre text whole (stop.Byte n) e w h = e ∙ h
-stops-from f f' pre text whole (stop.Number n) e w h = elim h [ inl x ↦ inl (e ∙ x) | inr x ↦ inr (over-wider pre text whole n w x) ]
+pub stops-from : {inner none : Type 0} (f f' : Option Stop) (pre text whole : List ℕ) (s : Stop) → f ≡ f' → whole ≡ pre ++ text → (inner → none) → Stops inner f' text s
+    → Stops none f whole s
+stops-from f f' pre text whole stop.Memory e w up h = tt
+stops-from f f' pre text whole (stop.Byte n) e w up h = e ∙ h
+stops-from f f' pre text whole (stop.Number n) e w up h = elim h [ inl x ↦ inl (e ∙ x) | inr x ↦ inr (over-wider pre text whole n w x.0, up x.1) ]
 
-pub exit_by : {T : Type 0} (f : Option Stop) (text : List ℕ) (r : Result T Stop) (x : Stop) → IsErrAnd r (λ y. y ≡ x) → Stops f text x → IfErr r (Stops f text)
-exit_by f text (Ok v) x h stops = tt
-exit_by f text (Err s) x h stops = subst (Stops f text) (sym h) stops
+pub exit_by : {T : Type 0} (none : Type 0) (f : Option Stop) (text : List ℕ) (r : Result T Stop) (x : Stop) → IsErrAnd r (λ y. y ≡ x) → Stops none f text x → IfErr r (Stops none f text)
+exit_by none f text (Ok v) x h stops = tt
+exit_by none f text (Err s) x h stops = subst (Stops none f text) (sym h) stops
 
-pub over-stops : (f : Option Stop) (text : List ℕ) (ls : List Limit) (k : ℕ) (p : Partial) (s : Stop) → (all_fit ls ≡ false → HasOver text (left_at k p))
-    → (s ≡ stop.Memory) ⊎ IsRaised ls k p s → Stops f text s
-over-stops f text ls k p s over h = elim h [
-  | inl m ↦ subst (Stops f text) (sym m) tt
-  | inr r ↦ subst (Stops f text) (sym r.0) (inr (over r.1))
+pub over-stops : {none : Type 0} (f : Option Stop) (text : List ℕ) (ls : List Limit) (k : ℕ) (p : Partial) (s : Stop) → (all_fit ls ≡ false → HasOver text (left_at k p))
+    → (all_fit ls ≡ false → none) → (s ≡ stop.Memory) ⊎ IsRaised ls k p s → Stops none f text s
+over-stops {none = none} f text ls k p s over unread h = elim h [
+  | inl m ↦ subst (Stops none f text) (sym m) tt
+  | inr r ↦ subst (Stops none f text) (sym r.0) (inr (over r.1, unread r.1))
 ]
 
 -- one comparator more
@@ -143,8 +145,8 @@ pub with-first : (text mid rest : List ℕ) (k : ℕ) (old new : List Limit) →
     → ((whole : List ℕ) (m : ℕ) → ComparatorsAt whole m old mid → ComparatorsAt whole (m + k) new rest) → ComparatorsAt text (k + 1) new rest
 with-first text mid rest k old new a more = subst (λ z. ComparatorsAt text z new rest) (add_comm 1 k) (more text 1 a)
 
-pub memory-stops : (f : Option Stop) (text : List ℕ) (s : Stop) → s ≡ stop.Memory → Stops f text s
-memory-stops f text s h = subst (Stops f text) (sym h) tt
+pub memory-stops : (none : Type 0) (f : Option Stop) (text : List ℕ) (s : Stop) → s ≡ stop.Memory → Stops none f text s
+memory-stops none f text s h = subst (Stops none f text) (sym h) tt
 
 -- behind a first comparator
 pub start-dash : (plain : Bool) (text rest over : List ℕ) → first_fault start text ≡ first_fault (after (turn_of plain first)) rest → plain ≡ true → rest ≡ 45 ∷ over

@@ -18,3 +18,7 @@ pub mod Follow
 pub mod FollowParts
 pub mod FollowRanges
 pub mod Stopped
+pub mod Same
+pub mod Unreads
+pub mod Bars
+pub mod Counts

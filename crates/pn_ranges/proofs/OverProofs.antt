@@ -93,7 +93,7 @@ three-placed text mid next mid2 next2 mid3 rest pre a b c left f d h e k t l0 l1
   }
   at (suc (suc (suc i))) y = absurd (let m = three-named a b c pre in omega arith)
 
-all-append : (test : ℕ → Bool) (s t : List ℕ) → list_all test s ≡ true → list_all test t ≡ true → list_all test (s ++ t) ≡ true
+pub all-append : (test : ℕ → Bool) (s t : List ℕ) → list_all test s ≡ true → list_all test t ≡ true → list_all test (s ++ t) ≡ true
 all-append test [] t h k = k
 all-append test (b ∷ s) t h k = elim (cases_Bool (test b)) [
   | inl holds ↦ rw holds (all-append test s t (rw holds at h) k)

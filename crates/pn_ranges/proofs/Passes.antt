@@ -1,6 +1,6 @@
 -- The automaton goes through comparators, ranges and sets of them.
-use Rattle.std.proofs.Common.{◌≡◌, ℕ, Bool, true, false, List, [], ◌∷◌, ◌++◌, Option, Some, None, refl, sym, subst, ◌∙◌, arith, inl, inr, append_assoc, append-nil}
-use Rattle.std.specs.Prelude.{◌==◌, ◌||◌, not, if◌then◌else◌}
+use Rattle.std.proofs.Common.{◌≡◌, ℕ, Bool, true, false, List, [], ◌∷◌, ◌++◌, Option, Some, None, refl, sym, ap, subst, ◌∙◌, arith, inl, inr, append_assoc, append-nil}
+use Rattle.std.specs.Prelude.{◌==◌, ◌&&◌, ◌||◌, not, if◌then◌else◌}
 use Rattle.std.specs.List.{list_all}
 use Rattle.std.proofs.lemmas.Bool.{cases_Bool}
 use Rattle.std.proofs.lemmas.Bool.Decides.{nat_tests}
@@ -13,7 +13,7 @@ use Rattle.pn_ranges.specs.Grammar as g
 use Rattle.pn_ranges.specs.Places.{Turn, State, first, later, upper, after, start, gap, closed, bar, dash, far, sign, equal, operand, lead, step, end_step, comparator_step, operand_step, after_step}
 use Rattle.pn_ranges.specs.Table.{Named}
 use Rattle.pn_ranges.proofs.Tails.{and_no}
-use Rattle.pn_ranges.proofs.Accepts.{accepts, accepts-goes, by-more, end-goes, end-none, goes, not-no, not-yes, stays-on}
+use Rattle.pn_ranges.proofs.Accepts.{accepts, accepts-goes, by-more, end-goes, end-none, fresh, goes, not-no, not-yes, stays-on}
 use Rattle.pn_ranges.proofs.Words.{and_left, and_right}
 
 -- a byte that a version begins with
@@ -31,16 +31,16 @@ starts-digit b h = grind (arith, nat_tests)
 
 -- an end of `A - B` where another state stands in front of it
 lead-operand : (text : List ℕ) → accepts (lead later) text ≡ true → accepts operand text ≡ true
-lead-operand text h = sym (accepts-goes operand text) ∙ by-more false false (end_step later) operand_step (λ b. not (is_space b)) (λ h. h)
-    (λ b y. end-none later b (not-no (is_space b) y)) (λ b y. rw (not-yes (is_space b) y) refl) text (accepts-goes (lead later) text ∙ h)
+lead-operand text h = sym (accepts-goes operand text refl) ∙ by-more false false (end_step later) operand_step (λ b. not (is_space b)) (λ h. h)
+    (λ b y. end-none later b (not-no (is_space b) y)) (λ b y. rw (not-yes (is_space b) y) refl) text (accepts-goes (lead later) text refl ∙ h)
 
 lead-equal : (e : Turn) (text : List ℕ) → accepts (lead e) text ≡ true → accepts (equal e) text ≡ true
-lead-equal e text h = sym (accepts-goes (equal e) text) ∙ by-more false false (end_step e) (step (equal e)) (λ b. not (is_space b)) (λ h. h)
-    (λ b y. end-none e b (not-no (is_space b) y)) (λ b y. rw (not-yes (is_space b) y) refl) text (accepts-goes (lead e) text ∙ h)
+lead-equal e text h = sym (accepts-goes (equal e) text refl) ∙ by-more false false (end_step e) (step (equal e)) (λ b. not (is_space b)) (λ h. h)
+    (λ b y. end-none e b (not-no (is_space b) y)) (λ b y. rw (not-yes (is_space b) y) refl) text (accepts-goes (lead e) text refl ∙ h)
 
 lead-far : (text : List ℕ) → accepts (lead upper) text ≡ true → accepts far text ≡ true
-lead-far text h = sym (accepts-goes far text) ∙ by-more false false (end_step upper) (step far) (λ b. not (is_space b)) (λ h. h)
-    (λ b y. end-none upper b (not-no (is_space b) y)) (λ b y. rw (not-yes (is_space b) y) refl) text (accepts-goes (lead upper) text ∙ h)
+lead-far text h = sym (accepts-goes far text refl) ∙ by-more false false (end_step upper) (step far) (λ b. not (is_space b)) (λ h. h)
+    (λ b y. end-none upper b (not-no (is_space b) y)) (λ b y. rw (not-yes (is_space b) y) refl) text (accepts-goes (lead upper) text refl ∙ h)
 
 operand-61 : (text : List ℕ) → accepts operand text ≡ true → accepts (sign 61) text ≡ true
 operand-61 [] h = h
@@ -55,8 +55,8 @@ operand-61 (b ∷ rest) h = elim (cases_Bool (b == 61)) [
   lead-61 b h = grind (arith, nat_tests)
 
 operand-62 : (text : List ℕ) → accepts operand text ≡ true → accepts (sign 62) text ≡ true
-operand-62 text h = sym (accepts-goes (sign 62) text) ∙ by-more false false operand_step (step (sign 62)) (λ b. not (b == 62)) (λ h. h)
-    (λ b y. none b (not-no (b == 62) y)) (λ b y. rw (not-yes (b == 62) y) refl) text (accepts-goes operand text ∙ h) where
+operand-62 text h = sym (accepts-goes (sign 62) text refl) ∙ by-more false false operand_step (step (sign 62)) (λ b. not (b == 62)) (λ h. h)
+    (λ b y. none b (not-no (b == 62) y)) (λ b y. rw (not-yes (b == 62) y) refl) text (accepts-goes operand text refl ∙ h) where
       no-space : (b : ℕ) → (b == 62) ≡ true → is_space b ≡ false
       no-space b h = grind (arith, nat_tests)
 
@@ -135,14 +135,14 @@ no-45 b h = grind (arith, nat_tests)
 opens-start : Opens start first
 opens-start = record {
   spaces = λ b h. rw h refl;
-  compares = λ text h. sym (accepts-goes start text) ∙ by-more false true (comparator_step first) (step start) (λ b. not (is_space b || (b == 124) || (b == 45))) (λ h. refl)
+  compares = λ text h. sym (accepts-goes start text refl) ∙ by-more false true (comparator_step first) (step start) (λ b. not (is_space b || (b == 124) || (b == 45))) (λ h. refl)
       (λ b y. gap-none first b (not-no (is_space b || (b == 124) || (b == 45)) y)) (λ b y. rw (no-space b (not-yes _ y), no-124 b (not-yes _ y)) refl) text h;
 }
 
 opens-gap : (m : Bool) → Opens (gap m) later
 opens-gap m = record {
   spaces = λ b h. rw h refl;
-  compares = λ text h. sym (accepts-goes (gap m) text) ∙ by-more false true (comparator_step later) (step (gap m)) (λ b. not (is_space b || (b == 124) || (b == 45))) (λ h. refl)
+  compares = λ text h. sym (accepts-goes (gap m) text refl) ∙ by-more false true (comparator_step later) (step (gap m)) (λ b. not (is_space b || (b == 124) || (b == 45))) (λ h. refl)
       (λ b y. gap-none later b (not-no (is_space b || (b == 124) || (b == 45)) y)) (λ b y. rw (no-space b (not-yes _ y), no-124 b (not-yes _ y), no-45 b (not-yes _ y), and_no m) refl) text h;
 }
 
@@ -158,20 +158,27 @@ closes-more f same = by-more true true closes f (λ b. b == 124) (λ h. h) (λ b
 
 closes-after : (e : Turn) (s rest : List ℕ) → AreSpaces s → goes true closes rest ≡ true → goes true (after_step e) (s ++ rest) ≡ true
 closes-after e [] rest a h = closes-more (after_step e) (λ b n y. rw (n, y) refl) rest h
-closes-after e (b ∷ s) rest a h = rw (and_left (is_space b) (list_all is_space s) a) (spaces e s (and_right (is_space b) (list_all is_space s) a)) where
-  spaces : (e : Turn) (s : List ℕ) → AreSpaces s → accepts (after e) (s ++ rest) ≡ true
-  spaces first s a = stays-on (gap true) is_space (λ b y. rw y refl) s rest a
-      (sym (accepts-goes (gap true) rest) ∙ closes-more (step (gap true)) (λ b n y. rw (n, y) refl) rest h)
-  spaces later s a = stays-on (gap false) is_space (λ b y. rw y refl) s rest a
-      (sym (accepts-goes (gap false) rest) ∙ closes-more (step (gap false)) (λ b n y. rw (n, y) refl) rest h)
-  spaces upper s a = stays-on closed is_space (λ b y. rw y refl) s rest a
-      (sym (accepts-goes closed rest) ∙ closes-more (step closed) (λ b n y. rw (n, y) refl) rest h)
+closes-after e (b ∷ s) rest a h =
+    rw (and_left (is_space b) (list_all is_space s) a)
+    (ap (λ v. v && accepts (after e) (s ++ rest)) (after-fresh e (b ∷ (s ++ rest))) ∙ spaces e s (and_right (is_space b) (list_all is_space s) a)) where
+      after-fresh : (e : Turn) (text : List ℕ) → fresh (after e) text ≡ true
+      after-fresh first text = refl
+      after-fresh later text = refl
+      after-fresh upper text = refl
+
+      spaces : (e : Turn) (s : List ℕ) → AreSpaces s → accepts (after e) (s ++ rest) ≡ true
+      spaces first s a = stays-on (gap true) is_space (λ b y. rw y refl) s rest a
+          (sym (accepts-goes (gap true) rest refl) ∙ closes-more (step (gap true)) (λ b n y. rw (n, y) refl) rest h)
+      spaces later s a = stays-on (gap false) is_space (λ b y. rw y refl) s rest a
+          (sym (accepts-goes (gap false) rest refl) ∙ closes-more (step (gap false)) (λ b n y. rw (n, y) refl) rest h)
+      spaces upper s a = stays-on closed is_space (λ b y. rw y refl) s rest a
+          (sym (accepts-goes closed rest refl) ∙ closes-more (step closed) (λ b n y. rw (n, y) refl) rest h)
 
 start-spaces : (s rest : List ℕ) → AreSpaces s → accepts start rest ≡ true → accepts start (s ++ rest) ≡ true
 start-spaces s rest a h = stays-on start is_space (λ b y. rw y refl) s rest a h
 
 closes-start : (rest : List ℕ) → goes true closes rest ≡ true → accepts start rest ≡ true
-closes-start rest h = sym (accepts-goes start rest) ∙ closes-more (step start) (λ b n y. rw (n, y) refl) rest h
+closes-start rest h = sym (accepts-goes start rest refl) ∙ closes-more (step start) (λ b n y. rw (n, y) refl) rest h
 
 -- comparators
 gap-spaces : (m : Bool) (s rest : List ℕ) → AreSpaces s → accepts (gap m) rest ≡ true → accepts (gap m) (s ++ rest) ≡ true

@@ -9,7 +9,8 @@ use Rattle.pn_ranges.specs.Grammar.{AreRanges}
 use Rattle.pn_ranges.specs.Grammar as g
 use Rattle.pn_ranges.specs.Limits.{Limit}
 use Rattle.pn_ranges.specs.Places.{State, bar, closed, start, step, may_end, is_large, on_step, first_fault}
-use Rattle.pn_ranges.specs.Reading.{RangeAt, RangesBefore, SpacedRange, Stops, ends_range}
+use Rattle.pn_ranges.specs.Reading.{RangeAt, RangesBefore, SpacedRange, Stops}
+use Rattle.pn_ranges.specs.Unread.{ends_range}
 use Rattle.pn_ranges.specs.Overs.{HasOver}
 use Rattle.pn_ranges.proofs.OverProofs.{over-within}
 use Rattle.pn_ranges.specs.Refusals.{IsLeftOf, RangeRefused, refusal_of}
@@ -120,23 +121,23 @@ fault-left (b ∷ rest) q s h = elim (step q b) as (λ o. on_step o (λ n. if is
       ] e
     ] h
 
-pub stops-left : (text : List ℕ) (s : Stop) → Stops (first_fault start text) text s → IsLeftOf (length text) s
-stops-left text (stop.Byte n) h = fault-left text start (stop.Byte n) h
-stops-left text (stop.Number n) h = elim h [ inl f ↦ fault-left text start (stop.Number n) f | inr o ↦ over-within text n o ]
-stops-left text stop.Memory h = tt
+pub stops-left : (none : Type 0) (text : List ℕ) (s : Stop) → Stops none (first_fault start text) text s → IsLeftOf (length text) s
+stops-left none text (stop.Byte n) h = fault-left text start (stop.Byte n) h
+stops-left none text (stop.Number n) h = elim h [ inl f ↦ fault-left text start (stop.Number n) f | inr o ↦ over-within text n o.0 ]
+stops-left none text stop.Memory h = tt
 
 back : (n m : ℕ) → n ≤ m → m - (m - n) ≡ n
 back n m h = omega arith
 
-pub refused-from : (text : List ℕ) (s : Stop) → Stops (first_fault start text) text s → RangeRefused text (refusal_of (length text) s)
-refused-from text (stop.Byte n) h =
+pub refused-from : (none : Type 0) (text : List ℕ) (s : Stop) → Stops none (first_fault start text) text s → RangeRefused text (refusal_of (length text) s)
+refused-from none text (stop.Byte n) h =
     let l : n ≤ length text = fault-left text start (stop.Byte n) h in
     record { within = omega arith; first = h ∙ ap (λ z. Some (stop.Byte z)) (sym (back n (length text) l)) }
-refused-from text (stop.Number n) h =
-    let l : n ≤ length text = stops-left text (stop.Number n) h in
+refused-from none text (stop.Number n) h =
+    let l : n ≤ length text = stops-left none text (stop.Number n) h in
     let e = sym (back n (length text) l) in
-    record { within = omega arith; large = elim h [ inl f ↦ inl (f ∙ ap (λ z. Some (stop.Number z)) e) | inr o ↦ inr (subst (λ z. HasOver text z) e o) ] }
-refused-from text stop.Memory h = tt
+    record { within = omega arith; large = elim h [ inl f ↦ inl (f ∙ ap (λ z. Some (stop.Number z)) e) | inr o ↦ inr (subst (λ z. HasOver text z) e o.0) ] }
+refused-from none text stop.Memory h = tt
 
 pub any-map : {A B : Type 0} (f : B → Bool) (m : A → B) (xs : List A) → list_any f (map m xs) ≡ list_any (λ x. f (m x)) xs
 any-map f m [] = refl

@@ -13,7 +13,8 @@ use Rattle.pn_ranges.specs.Edges.{HasPre}
 use Rattle.pn_ranges.specs.Grammar.{AreGaps, AreIdentifiers, AreSpaces, Begins, IsCompared, IsComparator, IsEnd, IsPartial, IsTail}
 use Rattle.pn_ranges.specs.Grammar as g
 use Rattle.pn_ranges.specs.Places.{Turn, first, later, upper, after, closed, dash, far, gap, lead, fault_after, first_fault}
-use Rattle.pn_ranges.specs.Reading.{LowerAt, SpacedAt, UpperAt, ends_range}
+use Rattle.pn_ranges.specs.Reading.{LowerAt, SpacedAt, UpperAt}
+use Rattle.pn_ranges.specs.Unread.{ends_range}
 use Rattle.pn_ranges.specs.Table.{Named, named}
 use Rattle.pn_ranges.proofs.Fronts.{front-behind, front-all, behind-stops, behind-next}
 use Rattle.pn_ranges.proofs.Steps.{run}
@@ -82,8 +83,9 @@ gap-front : (t : List ℕ) → starts_with is_space t ≡ true → AreGaps (fron
 gap-front [] h = cc h
 gap-front (b ∷ t) h = record { spaces = front-all is_space (b ∷ t); some = rw h h }
 
-pub upper-read : (text start mid rest : List ℕ) (n : Named) → starts_with is_space text ≡ true → start ≡ behind is_space text → Begins IsEnd start n mid → rest ≡ behind is_space mid → UpperAt text n rest
-upper-read text start mid rest n s t f r = record {
+pub upper-read : (text start mid rest : List ℕ) (n : Named) → starts_with is_space text ≡ true → start ≡ behind is_space text → Begins IsEnd start n mid → rest ≡ behind is_space mid
+    → (starts_with is_space mid ≡ false → ends_range rest ≡ true) → UpperAt text n rest
+upper-read text start mid rest n s t f r h = record {
   gaps = front_of is_space text;
   front = f.front;
   spaces = front_of is_space mid;
@@ -91,6 +93,7 @@ upper-read text start mid rest n s t f r = record {
   apart = gap-front text s;
   read = f.spelled;
   blank = front-all is_space mid;
+  behind = apart-front mid rest r h;
 }
 
 -- pre-releases that are read are in the form of SemVer

@@ -20,8 +20,9 @@ use Rattle.std.proofs.lemmas.Bool.{leb-true}
 use Rattle.std.proofs.lemmas.Bool.Decides.{nat_tests}
 use Rattle.pn_ranges.specs.Bytes.{number_at, number_from}
 use Rattle.pn_ranges.specs.Table.{named}
-use Rattle.pn_ranges.proofs.Accepts.{accepts, on_some}
+use Rattle.pn_ranges.proofs.Accepts.{accepts, on_some, small}
 use Rattle.pn_ranges.proofs.Passes.{forms-go}
+use Rattle.pn_ranges.proofs.Tails.{and_no}
 use Rattle.pn_ranges.proofs.Follow.{Digits, Rest, RestOf}
 use Rattle.pn_ranges.proofs.Follow as w
 use Rattle.pn_ranges.proofs.FollowParts.{build-step, digits-step, end-step, hyphen-step, naught-step, part-step, plus-step, pre-step-on, whole-step, zeros-step}
@@ -62,19 +63,21 @@ stopped (b ∷ rest) s n h =
 -- no text goes on there
 none-past : (s : State) (text : List ℕ) (at : ℕ) → StopsIn s text at → at < length text → (more : List ℕ) → accepts s (take (at + 1) text ++ more) ≡ false
 none-past s _ _ (early _ e) l more = absurd (omega arith)
-none-past s _ _ (here _ b rest e) l more = ap (λ o. on_some o (λ n. accepts n (take 0 rest ++ more))) e
+none-past s _ _ (here _ b rest e) l more = ap (λ o. on_some o (λ n. small s n (b ∷ (take 0 rest ++ more)) && accepts n (take 0 rest ++ more))) e
 none-past s _ _ (later _ next b at rest e large i) l more =
     let same : suc at + 1 ≡ suc (at + 1) = omega arith in
     let inner : at < length rest = omega arith in
+    let behind = take (at + 1) rest ++ more in
     subst (λ z. accepts s (take z (b ∷ rest) ++ more) ≡ false) (sym same)
-    (ap (λ o. on_some o (λ n. accepts n (take (at + 1) rest ++ more))) e ∙ none-past next rest at i inner more)
+    (ap (λ o. on_some o (λ n. small s n (b ∷ behind) && accepts n behind)) e ∙ ap (λ v. small s next (b ∷ behind) && v) (none-past next rest at i inner more)
+    ∙ and_no (small s next (b ∷ behind)))
 
-none-whole : (s : State) (text : List ℕ) (at : ℕ) → StopsIn s text at → at ≡ length text → accepts s text ≡ false
-none-whole s _ _ (early _ e) l = e
-none-whole s _ _ (here _ b rest e) l = absurd (omega arith)
-none-whole s _ _ (later _ next b at rest e large i) l =
-    let inner : at ≡ length rest = omega arith in
-    ap (λ o. on_some o (λ n. accepts n rest)) e ∙ none-whole next rest at i inner
+none-whole : (s : State) (text : List ℕ) (at : ℕ) → StopsIn s text at → accepts s text ≡ false
+none-whole s _ _ (early _ e) = e
+none-whole s _ _ (here _ b rest e) = ap (λ o. on_some o (λ n. small s n (b ∷ rest) && accepts n rest)) e
+none-whole s _ _ (later _ next b at rest e large i) =
+    ap (λ o. on_some o (λ n. small s n (b ∷ rest) && accepts n rest)) e ∙ ap (λ v. small s next (b ∷ rest) && v) (none-whole next rest at i)
+    ∙ and_no (small s next (b ∷ rest))
 
 -- some text goes on in each state
 zero-end : IsEnd (48 ∷ []) (named (Some 0) None None [])
@@ -157,7 +160,7 @@ range-form _ _ _ g.empty = f.empty
 range-form _ _ _ (g.comparators t k ls c) = f.comparators t (comparators-form t k ls c)
 range-form _ _ _ (g.hyphen a s r b low high i p q j fit) = f.hyphen a s r b low high i p q j
 
-ranges-form : (t : List ℕ) (k : ℕ) (ls : List (List Limit)) → AreRanges t k ls → AreForms t
+pub ranges-form : (t : List ℕ) (k : ℕ) (ls : List (List Limit)) → AreRanges t k ls → AreForms t
 ranges-form _ _ _ (g.one s t r k ls a i b) = f.one s t r a (range-form t k ls i) b
 ranges-form _ _ _ (g.more s t r u k m ls lss a i b c) = f.more s t r u a (range-form t k ls i) b (ranges-form u m lss c)
 
@@ -170,7 +173,7 @@ goes-on text at h =
       within = h.within;
       front = up-to p.start text at i;
       byte = λ l m. let x : true ≡ false = sym (forms-go (take (at + 1) text ++ m.0) m.1) ∙ none-past p.start text at i l m.0 in cc;
-      early = λ e a. let x : true ≡ false = sym (forms-go text a) ∙ none-whole p.start text at i e in cc;
+      early = λ e a. let x : true ≡ false = sym (forms-go text a) ∙ none-whole p.start text at i in cc;
     }
 
 -- a text in which a number of 2^64 or more begins behind so many bytes
@@ -203,6 +206,20 @@ large (b ∷ rest) s n h =
             record { at = suc i.at; split = more; is = later s m b i.at rest e l i.is }
       ] refl k
     ] refl h
+
+none-large : (s : State) (text : List ℕ) (at : ℕ) → LargeIn s text at → accepts s text ≡ false
+none-large s _ _ (here _ next b rest e l) =
+    ap (λ o. on_some o (λ n. small s n (b ∷ rest) && accepts n rest)) e ∙ ap (λ v. not v && accepts next rest) l
+none-large s _ _ (later _ next b at rest e l i) =
+    ap (λ o. on_some o (λ n. small s n (b ∷ rest) && accepts n rest)) e ∙ ap (λ v. small s next (b ∷ rest) && v) (none-large next rest at i)
+    ∙ and_no (small s next (b ∷ rest))
+
+-- what is of the form has no fault
+pub no-byte : (text : List ℕ) (n : ℕ) → AreForms text → first_fault p.start text ≡ Some (stop.Byte n) → ⊥
+no-byte text n a h = let s = stopped text p.start n h in let x : true ≡ false = sym (forms-go text a) ∙ none-whole p.start text s.at s.is in cc x
+
+pub no-number : (text : List ℕ) (n : ℕ) → AreForms text → first_fault p.start text ≡ Some (stop.Number n) → ⊥
+no-number text n a h = let s = large text p.start n h in let x : true ≡ false = sym (forms-go text a) ∙ none-large p.start text s.at s.is in cc x
 
 -- one digit is a small number
 one-digit : (b : ℕ) → nat_le (2 ^ 64) (number_at (b ∷ [])) ≡ false

@@ -6,6 +6,7 @@ pub mod Grammar
 pub mod Forms
 pub mod Overs
 pub mod Places
+pub mod Unread
 pub mod Reading
 pub mod Refusals
 pub mod Laws

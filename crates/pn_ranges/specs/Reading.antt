@@ -1,5 +1,5 @@
 -- What the reader has read, and where it stops.
-use Rattle.std.specs.Prelude.{◌≡◌, ◌⊎◌, ℕ, ◌+◌, ◌==◌, Bool, true, false, List, [], ◌∷◌, ◌++◌, Option, Some}
+use Rattle.std.specs.Prelude.{◌≡◌, ◌⊎◌, ℕ, ◌+◌, true, false, List, [], ◌∷◌, ◌++◌, Option, Some}
 use Rattle.pn_ranges.specs.declared.comparator.Sign.{Sign}
 use Rattle.pn_ranges.specs.declared.fault.Stop.{Stop}
 use Rattle.pn_ranges.specs.declared.fault.Stop.TheVariants as stop
@@ -8,11 +8,7 @@ use Rattle.pn_ranges.specs.Grammar.{AreComparators, AreGaps, AreRanges, AreSpace
 use Rattle.pn_ranges.specs.Limits.{Limit}
 use Rattle.pn_ranges.specs.Overs.{HasOver}
 use Rattle.pn_ranges.specs.Table.{Named, all_fit, between}
-
--- where a range ends: at the text's end or a `|`
-abbrev pub ends_range : List ℕ → Bool
-ends_range [] = true
-ends_range (b ∷ rest) = b == 124
+use Rattle.pn_ranges.specs.Unread.{ends_range}
 
 -- comparators and the spaces behind them
 pub record ComparatorsAt (text : List ℕ) (k : ℕ) (ls : List Limit) (rest : List ℕ) : Type 0 where
@@ -50,6 +46,7 @@ pub record UpperAt (text : List ℕ) (n : Named) (rest : List ℕ) : Type 0 wher
   pub apart : AreGaps gaps
   pub read : IsEnd front n
   pub blank : AreSpaces spaces
+  pub behind : ends_range rest ≡ false → starts_with is_space spaces ≡ true
 
 -- the same with the limits that a lower end gives it
 pub record HyphenAt (low : Named) (text : List ℕ) (ls : List Limit) (rest : List ℕ) : Type 0 where
@@ -76,11 +73,11 @@ pub record SpacedRange (text : List ℕ) (k : ℕ) (ls : List Limit) (rest : Lis
   pub read : IsRange front k ls
   pub blank : AreSpaces spaces
 
--- why the reader stops, beside the first fault of the automaton
-abbrev pub Stops : Option Stop → List ℕ → Stop → Type 0
-Stops found text stop.Memory = Unit {0}
-Stops found text (stop.Byte n) = found ≡ Some (stop.Byte n)
-Stops found text (stop.Number n) = (found ≡ Some (stop.Number n)) ⊎ HasOver text n
+-- why the reader stops, beside the first fault of the automaton, and that there is no reading where a limit doesn't fit
+abbrev pub Stops : Type 0 → Option Stop → List ℕ → Stop → Type 0
+Stops none found text stop.Memory = Unit {0}
+Stops none found text (stop.Byte n) = found ≡ Some (stop.Byte n)
+Stops none found text (stop.Number n) = (found ≡ Some (stop.Number n)) ⊎ (HasOver text n × none)
 
 -- ranges with `||` behind each, which ranges behind them go on from
 pub record RangesBefore (text rest : List ℕ) (count : ℕ) (ranges : List (List Limit)) : Type 0 where

@@ -5,8 +5,9 @@ ghost use Rattle.pn_ranges.specs.Edges.{HasPre, IsRaised, left_at, named_by};
 ghost use Rattle.pn_ranges.specs.Grammar.{Begins, IsEnd};
 ghost use Rattle.pn_ranges.specs.Overs.{HasOver};
 ghost use Rattle.pn_ranges.specs.Places.{Turn, after, closed, dash, fault_after, fault_comparator, first_fault, gap, start, turn_of, upper};
-ghost use Rattle.pn_ranges.specs.Reading.{ComparatorsAt, HyphenAt, LowerAt, RangeAt, SpacedAt, Stops, UpperAt, ends_range};
+ghost use Rattle.pn_ranges.specs.Reading.{ComparatorsAt, HyphenAt, LowerAt, RangeAt, SpacedAt, Stops, UpperAt};
 ghost use Rattle.pn_ranges.specs.Table.{all_fit, limits, raised, upper_limits, upper_raised};
+ghost use Rattle.pn_ranges.specs.Unread.{NoLater, NoRanges, NoUpper, ends_range};
 
 use crate::bound::{Bound, push_edges};
 use crate::comparator::{Comparator, Sign, comparator_at};
@@ -109,7 +110,7 @@ fn hyphen_at<'a>(
     ensures ends { IfOk result (λ r. ends_range r.now ≡ true) }
     ensures spaces { IfOk result (λ r. starts_with is_space r.now ≡ false) }
     ensures goes { IfOk result (λ r. first_fault dash text.now ≡ first_fault closed r.now) }
-    ensures stops { IfErr result (Stops (first_fault dash text.now) text.now) }
+    ensures stops { IfErr result (Stops (NoUpper text.now) (first_fault dash text.now) text.now) }
 {
     let (high, rest) = upper_at(text)?;
     let edges = hyphen_edges(low, &high)?;
@@ -129,8 +130,9 @@ fn next_at<'a>(alloc: Global, text: &'a [u8], bounds: &mut Vec<Bound>) -> Result
     ensures spaces { IfOk result (λ r. starts_with is_space r.now ≡ false) }
     ensures part { IfOk result (λ r. (front : List ℕ) × (text.now ≡ front ++ r.now)) }
     ensures shorter { IfOk result (λ r. length r.now < length text.now) }
+    ensures none { IfOk result (λ r. NoLater r.now → NoLater text.now) }
     ensures goes { IfOk result (λ r. first_fault (gap false) text.now ≡ first_fault (gap false) r.now) }
-    ensures stops { IfErr result (Stops (first_fault (gap false) text.now) text.now) }
+    ensures stops { IfErr result (Stops (NoLater text.now) (first_fault (gap false) text.now) text.now) }
 {
     let (comparator, rest) = spaced_at(text)?;
     push_comparator(alloc, bounds, &comparator)?;
@@ -150,7 +152,7 @@ fn later_at<'a>(
     ensures spaces { IfOk result (λ r. starts_with is_space r.1.now ≡ false) }
     ensures few { IfOk result (λ r. r.0 + length r.1.now ≤ length text.now) }
     ensures goes { IfOk result (λ r. first_fault (gap false) text.now ≡ first_fault closed r.1.now) }
-    ensures stops { IfErr result (Stops (first_fault (gap false) text.now) text.now) }
+    ensures stops { IfErr result (Stops (NoLater text.now) (first_fault (gap false) text.now) text.now) }
 {
     let mut count = 0;
     let mut rest = text;
@@ -181,7 +183,7 @@ pub(crate) fn range_at<'a>(
     ensures ends { IfOk result (λ r. ends_range r.1.now ≡ true) }
     ensures few { IfOk result (λ r. r.0 + length r.1.now ≤ length text.now) }
     ensures goes { IfOk result (λ r. first_fault start text.now ≡ first_fault closed r.1.now) }
-    ensures stops { IfErr result (Stops (first_fault start text.now) text.now) }
+    ensures stops { IfErr result (Stops (NoRanges text.now) (first_fault start text.now) text.now) }
 {
     if ends_range(text) {
         push_edges(alloc, bounds, &any_edges(Sign::Exact))?;

@@ -1,11 +1,12 @@
 // Range sets: ranges joined by `||`.
-ghost use Rattle.std.specs.Prelude.{◌≡◌, ◌≤◌, ◌+◌, ℕ, List, [], ◌∷◌, ◌++◌, length, map, IfOk, IfErr, OnOk, None, true, false, codes};
+ghost use Rattle.std.specs.Prelude.{◌≡◌, ◌≢◌, ◌≤◌, ◌+◌, ℕ, List, [], ◌∷◌, ◌++◌, length, map, IfOk, IfErr, OnOk, None, true, false, codes};
 ghost use Rattle.std.specs.List.{list_any};
 ghost use Rattle.pn_ranges.specs.Grammar.{AreRanges, Spells};
 ghost use Rattle.pn_ranges.specs.Limits.{Limit, meets_all, satisfies};
 ghost use Rattle.pn_ranges.specs.Places.{closed, first_fault, start};
-ghost use Rattle.pn_ranges.specs.Reading.{SpacedRange, Stops, ends_range};
+ghost use Rattle.pn_ranges.specs.Reading.{SpacedRange, Stops};
 ghost use Rattle.pn_ranges.specs.Refusals.{IsLeftOf, RangeRefused, refusal_of};
+ghost use Rattle.pn_ranges.specs.Unread.{NoRanges, ends_range};
 
 use crate::bound::{Bound, meets_all, push_edges};
 use crate::comparator::Sign;
@@ -43,7 +44,7 @@ fn range_into<'a>(
     ensures ends { IfOk result (λ r. ends_range r.1.now ≡ true) }
     ensures few { IfOk result (λ r. r.0 + length r.1.now ≤ length text.now) }
     ensures goes { IfOk result (λ r. first_fault start text.now ≡ first_fault closed r.1.now) }
-    ensures stops { IfErr result (Stops (first_fault start text.now) text.now) }
+    ensures stops { IfErr result (Stops (NoRanges text.now) (first_fault start text.now) text.now) }
 {
     let mut bounds = Vec::new(alloc);
     let (count, rest) = range_at(alloc, behind_spaces(text), &mut bounds)?;
@@ -56,7 +57,7 @@ fn ranges_in(alloc: Global, text: &[u8], ranges: &mut Vec<Vec<Bound>>) -> Result
     requires { ranges.old.items ≡ [] }
     ensures read { IfOk result (λ k. AreRanges text.now k (map (λ v. v.items) ranges.new.items)) }
     ensures right { OnOk result (first_fault start text.now ≡ None) }
-    ensures stops { IfErr result (Stops (first_fault start text.now) text.now) }
+    ensures stops { IfErr result (Stops (NoRanges text.now) (first_fault start text.now) text.now) }
 {
     let mut count = 0;
     let mut rest = text;
@@ -96,6 +97,8 @@ impl Range {
     pub fn read(alloc: Global, text: &str) -> Result<Range, RangeFault>
         ensures spells { IfOk result (λ r. Spells text.now r) }
         ensures fault { IfErr result (RangeRefused text.now) }
+        ensures none { IfErr result (λ e. e ≢ RangeFault.Memory → (r : List (List Limit)) → Spells text.now r
+            → ⊥) }
     {
         let mut ranges = Vec::new(alloc);
         match ranges_in(alloc, text.as_bytes(), &mut ranges) {

@@ -2,6 +2,7 @@ use Rattle.std.proofs.Common.{◌≡◌, ◌≤◌, ◌+◌, ◌++◌, ℕ, List
 use Rattle.pn_ranges.specs.Bytes.{is_space, starts_with}
 use Rattle.pn_ranges.specs.Places.{first_fault, gap}
 use Rattle.pn_ranges.specs.Reading.{ComparatorsAt}
+use Rattle.pn_ranges.specs.Unread.{NoLater}
 use Rattle.pn_ranges.proofs.range.later_at.Given as goal
 
 abbrev pub invariant-comparators : goal.invariant-comparators
@@ -10,6 +11,7 @@ invariant-comparators l = record {
   spaces : starts_with is_space l.rest ≡ false;
   few : l.count + length l.rest ≤ length l.fn.text;
   goes : first_fault (gap false) l.fn.text ≡ first_fault (gap false) l.rest;
+  none : NoLater l.rest → NoLater l.fn.text;
   part : (front : List ℕ) × (l.fn.text ≡ front ++ l.rest);
 }
 

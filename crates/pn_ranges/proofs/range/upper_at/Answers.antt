@@ -14,7 +14,7 @@ returns-in_err-rest-clause-stops c = exit_stop (first_fault dash c.args.text.now
     (dash-lead c.args.text.now c.behind_spaces.result.now (sym c.starts_with_space.ensures ∙ c.if-not-starts_with_space.false) c.behind_spaces.ensures ∙ c.in_ok-high.ensures.goes upper ∙ c.in_err-rest.ensures.stops upper)
 
 pub returns-clause-read : goal.returns-clause-read
-returns-clause-read c = upper-read _ _ _ _ _ (sym c.starts_with_space.ensures ∙ c.if-not-starts_with_space.false) c.behind_spaces.ensures c.in_ok-high.ensures.read c.in_ok-rest.ensures.spaces
+returns-clause-read c = upper-read _ _ _ _ _ (sym c.starts_with_space.ensures ∙ c.if-not-starts_with_space.false) c.behind_spaces.ensures c.in_ok-high.ensures.read c.in_ok-rest.ensures.spaces c.in_ok-rest.ensures.apart
 
 pub returns-clause-pre : goal.returns-clause-pre
 returns-clause-pre c = end-pre _ (named_by c.in_ok-high.high) c.in_ok-high.ensures.read.spelled

@@ -5,15 +5,21 @@ use Rattle.pn_ranges.specs.Places.{first_fault, start}
 use Rattle.pn_ranges.proofs.Spaced.{stops-behind}
 use Rattle.pn_ranges.proofs.Joins.{exit_by, stops-from}
 use Rattle.pn_ranges.proofs.Sets.{few-more, lead-split, map-push, spaced-range, start-run}
+use Rattle.pn_ranges.proofs.Fronts.{front-all}
+use Rattle.pn_ranges.proofs.Unreads.{into-none}
+use Rattle.pn_ranges.specs.Unread.{NoRanges}
 use Rattle.pn_ranges.proofs.set.range_into.Goals as goal
 
 pub range_at-requires-clause-spaces : goal.range_at-requires-clause-spaces
 range_at-requires-clause-spaces c = stops-behind c.args.text.now c.behind_spaces.result.now c.behind_spaces.ensures
 
 pub returns-in_err-count-clause-stops : goal.returns-in_err-count-clause-stops
-returns-in_err-count-clause-stops c = exit_by (first_fault start c.args.text.now) c.args.text.now _ _ c.from_residual.ensures.1
+returns-in_err-count-clause-stops c = exit_by (NoRanges c.args.text.now) (first_fault start c.args.text.now) c.args.text.now _ _ c.from_residual.ensures.1
     (stops-from (first_fault start c.args.text.now) (first_fault start c.behind_spaces.result.now) (front_of is_space c.args.text.now) c.behind_spaces.result.now c.args.text.now _
-    (start-run c.args.text.now c.behind_spaces.result.now c.behind_spaces.ensures) (lead-split c.args.text.now c.behind_spaces.result.now c.behind_spaces.ensures) c.in_err-count.ensures.stops)
+    (start-run c.args.text.now c.behind_spaces.result.now c.behind_spaces.ensures) (lead-split c.args.text.now c.behind_spaces.result.now c.behind_spaces.ensures)
+    (into-none c.args.text.now (front_of is_space c.args.text.now) c.behind_spaces.result.now (front-all is_space c.args.text.now)
+    (lead-split c.args.text.now c.behind_spaces.result.now c.behind_spaces.ensures))
+    c.in_err-count.ensures.stops)
 
 pub returns-clause-read : goal.returns-clause-read
 returns-clause-read c = (

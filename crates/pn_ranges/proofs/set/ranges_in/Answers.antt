@@ -1,22 +1,25 @@
-use Rattle.std.proofs.Common.{ℕ, List, Vec, Global, length, map, ap, arith, ◌∙◌, refl}
+use Rattle.std.proofs.Common.{ℕ, List, ◌∷◌, Vec, Global, length, map, ap, arith, ◌∙◌, refl}
 use Rattle.pn_ranges.specs.declared.bound.Bound.{Bound}
 use Rattle.pn_ranges.specs.Places.{first_fault, start}
 use Rattle.pn_ranges.proofs.Joins.{exit_by, stops-from}
 use Rattle.pn_ranges.proofs.Sets.{bar-stop, before-next, before-start, closed-bar, closed-end, closed-start, no-bar, ranges-end}
+use Rattle.pn_ranges.proofs.Bars.{next-none}
+use Rattle.pn_ranges.specs.Unread.{NoRanges}
 use Rattle.pn_ranges.proofs.set.ranges_in.Goals as goal
 
 pub each-init : goal.each-init
 each-init c = record {
   read = before-start c.args.text.now _ (ap (map (λ (v : Vec Bound Global). v.items)) c.requires);
   few = omega arith;
+  none = λ h. h;
   goes = refl;
 }
 
 pub returns-in_err-k-clause-stops : goal.returns-in_err-k-clause-stops
 returns-in_err-k-clause-stops c =
     let i = c.each.invariant in
-    exit_by (first_fault start c.args.text.now) c.args.text.now _ _ c.from_residual.ensures.1
-    (stops-from (first_fault start c.args.text.now) (first_fault start c.each.rest.now) i.read.front c.each.rest.now c.args.text.now _ i.goes i.read.split c.in_err-k.ensures.stops)
+    exit_by (NoRanges c.args.text.now) (first_fault start c.args.text.now) c.args.text.now _ _ c.from_residual.ensures.1
+    (stops-from (first_fault start c.args.text.now) (first_fault start c.each.rest.now) i.read.front c.each.rest.now c.args.text.now _ i.goes i.read.split i.none c.in_err-k.ensures.stops)
 
 pub returns-in_default-clause-read : goal.returns-in_default-clause-read
 returns-in_default-clause-read c =
@@ -43,6 +46,8 @@ each-preserved c =
           let a = ap (λ (y : List ℕ). length y) c.in-Some.ensures in
           let b = ap (λ (y : List ℕ). length y) c.in-Some-strip.ensures in
           omega arith;
+      none = λ h. i.none (next-none c.each.rest.now c.in_ok-k.behind.now c.in-Some-strip.next.now c.in_ok-k.k r.0 r.1
+          (c.in-Some.ensures ∙ ap (λ z. 124 ∷ z) c.in-Some-strip.ensures) h);
       goes = i.goes ∙ c.in_ok-k.ensures.goes ∙ closed-start c.in_ok-k.behind.now c.in-Some.after.now c.in-Some-strip.next.now c.in-Some.ensures c.in-Some-strip.ensures;
     }
 

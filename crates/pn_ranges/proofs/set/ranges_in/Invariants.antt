@@ -2,12 +2,14 @@ use Rattle.std.proofs.Common.{◌≡◌, ◌≤◌, ◌+◌, Vec, Global, length
 use Rattle.pn_ranges.specs.declared.bound.Bound.{Bound}
 use Rattle.pn_ranges.specs.Places.{first_fault, start}
 use Rattle.pn_ranges.specs.Reading.{RangesBefore}
+use Rattle.pn_ranges.specs.Unread.{NoRanges}
 use Rattle.pn_ranges.proofs.set.ranges_in.Given as goal
 
 abbrev pub invariant-each : goal.invariant-each
 invariant-each l = record {
   read : RangesBefore l.fn.text l.rest l.count (map (λ (v : Vec Bound Global). v.items) l.ranges.items);
   few : l.count + length l.rest ≤ length l.fn.text;
+  none : NoRanges l.rest → NoRanges l.fn.text;
   goes : first_fault start l.fn.text ≡ first_fault start l.rest;
 }
 
