@@ -1,5 +1,5 @@
 -- Texts with an `@`.
-use Rattle.std.proofs.Common.{◌≡◌, ◌≢◌, ◌<◌, ℕ, suc, Bool, true, false, List, [], ◌∷◌, ◌++◌, length, get_or, take, Option, Some, None, refl, sym, ap, ◌∙◌, subst, arith, inl, inr}
+use Rattle.std.proofs.Common.{◌≡◌, ◌≢◌, ◌<◌, ℕ, suc, Bool, true, false, List, [], ◌∷◌, ◌++◌, length, get_or, take, Option, Some, None, refl, sym, ap, ◌∙◌, subst, arith, inl, inr, codes}
 use Rattle.std.specs.Prelude.{nat_le, ◌==◌, ◌&&◌, ◌||◌, ◌⊎◌, Result, Ok, Err, IfErr, MatchOption}
 use Rattle.std.specs.Borrow.{Bor}
 use Rattle.std.specs.Result.{IsErrAnd}
@@ -14,11 +14,12 @@ use Rattle.pn_text.specs.Name.{IsName, is_first, is_name, is_name_byte, is_name_
 use Rattle.pn_text.specs.Name as name
 use Rattle.pn_ranges.proofs.Words.{and_left, and_right}
 use Rattle.pn_text.proofs.NameTexts.{name_law}
-use Rattle.pn_spec.specs.Ranges.{has_foreign, is_foreign}
+use Rattle.pn_spec.specs.Ranges.{IsNoRange, has_foreign, is_foreign}
+use Rattle.pn_spec.proofs.Foreign.{foreign}
 use Rattle.pn_spec.specs.declared.fault.SpecFault.{SpecFault}
 use Rattle.pn_spec.specs.declared.fault.SpecFault.TheVariants.{Unsupported, Memory}
-use Rattle.pn_spec.specs.Refusals.{FitsNoWant, FitsNoWsWant, FitsNoWorkspace, FitsNoAlias, Refuses}
-use Rattle.pn_spec.specs.Tags.{is_letter, is_tag}
+use Rattle.pn_spec.specs.Refusals.{FitsNoWant, FitsNoWsWant, FitsNoWorkspace, FitsNoAlias, FitsNoForm, Refuses}
+use Rattle.pn_spec.specs.Tags.{is_letter, is_tag, is_catalog}
 use Rattle.pn_spec.specs.Texts.{HasNoPart, IsParted, has_at}
 
 none-at : (t : List ℕ) → ((i : ℕ) → i < length t → get_or t i 0 ≢ 64) → has_at t ≡ false
@@ -77,9 +78,58 @@ tag-not : (n rest : List ℕ) → is_tag (n ++ 64 ∷ rest) ≡ false
 tag-not [] rest = refl
 tag-not (b ∷ n) rest = ap (λ x. is_letter b && x) (plain-not n rest) ∙ and-false (is_letter b)
 
+-- no range has an `@`
+no-range-at : (t n rest : List ℕ) → t ≡ n ++ 64 ∷ rest → IsNoRange t
+no-range-at t n rest e r spells = let none : true ≡ false = sym (ap has_foreign e ∙ foreign-any n rest) ∙ foreign t r spells in cc none
+
+-- nor has one a `:`
+colon-none : (t front : List ℕ) → t ≡ front → has_foreign front ≡ true → IsNoRange t
+colon-none t front e h r spells = let none : true ≡ false = sym (ap has_foreign e ∙ h) ∙ foreign t r spells in cc none
+
+workspace_none : (t rest : List ℕ) → t ≡ codes "workspace:" ++ rest → IsNoRange t
+workspace_none t rest e = colon-none t (codes "workspace:" ++ rest) e refl
+
+catalog_none : (t rest : List ℕ) → t ≡ codes "catalog:" ++ rest → IsNoRange t
+catalog_none t rest e = colon-none t (codes "catalog:" ++ rest) e refl
+
+alias_none : (t rest : List ℕ) → t ≡ codes "npm:" ++ rest → IsNoRange t
+alias_none t rest e = colon-none t (codes "npm:" ++ rest) e refl
+
+abbrev head_of : List ℕ → ℕ
+head_of [] = 0
+head_of (b ∷ t) = b
+
+-- a prefixed text is of its form alone
+pub workspace_refused : (fault : SpecFault) (t rest : List ℕ) → t ≡ codes "workspace:" ++ rest → Refuses (FitsNoWorkspace rest) fault → Refuses (FitsNoForm t) fault
+workspace_refused Memory t rest e h = tt
+workspace_refused Unsupported t rest e h = record {
+  workspace = λ r f. let same : rest ≡ r = cc (e, f) in subst FitsNoWorkspace same h;
+  catalog = λ r f. let heads : 119 ≡ 99 = ap head_of (sym e ∙ f) in absurd (omega (arith, heads));
+  alias = λ r f. let heads : 119 ≡ 110 = ap head_of (sym e ∙ f) in absurd (omega (arith, heads));
+  bare = record { no_range = workspace_none t rest e; no_tag = ap is_tag e };
+}
+
+pub catalog_refused : (fault : SpecFault) (t rest : List ℕ) → t ≡ codes "catalog:" ++ rest → Refuses (is_catalog rest ≡ false) fault → Refuses (FitsNoForm t) fault
+catalog_refused Memory t rest e h = tt
+catalog_refused Unsupported t rest e h = record {
+  workspace = λ r f. let heads : 99 ≡ 119 = ap head_of (sym e ∙ f) in absurd (omega (arith, heads));
+  catalog = λ r f. let same : rest ≡ r = cc (e, f) in subst (λ (x : List ℕ). is_catalog x ≡ false) same h;
+  alias = λ r f. let heads : 99 ≡ 110 = ap head_of (sym e ∙ f) in absurd (omega (arith, heads));
+  bare = record { no_range = catalog_none t rest e; no_tag = ap is_tag e };
+}
+
+pub alias_refused : (fault : SpecFault) (t rest : List ℕ) → t ≡ codes "npm:" ++ rest → Refuses (FitsNoAlias rest) fault → Refuses (FitsNoForm t) fault
+alias_refused Memory t rest e h = tt
+alias_refused Unsupported t rest e h = record {
+  workspace = λ r f. let heads : 110 ≡ 119 = ap head_of (sym e ∙ f) in absurd (omega (arith, heads));
+  catalog = λ r f. let heads : 110 ≡ 99 = ap head_of (sym e ∙ f) in absurd (omega (arith, heads));
+  alias = λ r f. let same : rest ≡ r = cc (e, f) in subst FitsNoAlias same h;
+  bare = record { no_range = alias_none t rest e; no_tag = ap is_tag e };
+}
+
 pub no-want-at : (t n rest : List ℕ) → t ≡ n ++ 64 ∷ rest → FitsNoWant t
 no-want-at t n rest e = record {
-  no_range = inl (ap has_foreign e ∙ foreign-any n rest);
+  no_range = no-range-at t n rest e;
   no_tag = ap is_tag e ∙ tag-not n rest;
 }
 
@@ -95,7 +145,7 @@ no-ws-want-at t n rest e = record {
   no_any = not-short t n rest 42 e refl;
   no_caret = not-short t n rest 94 e refl;
   no_tilde = not-short t n rest 126 e refl;
-  no_range = inl (ap has_foreign e ∙ foreign-any n rest);
+  no_range = no-range-at t n rest e;
 }
 
 plain-no-at : (t : List ℕ) → list_all is_name_byte t ≡ true → has_at t ≡ false

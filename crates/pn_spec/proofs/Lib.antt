@@ -1,6 +1,6 @@
 pub mod Ends
-pub mod Ats
 pub mod Foreign
+pub mod Ats
 pub mod LawProofs
 pub mod Puts
 pub mod Named

@@ -36,21 +36,28 @@ impl Spec {
     }
 }
 
+#[tactic(auto, using(crate::proofs::Ats::workspace_refused, crate::proofs::Ats::catalog_refused, crate::proofs::Ats::alias_refused))]
 fn read_form(alloc: Global, text: &str) -> Result<Spec, SpecFault>
     ensures ok { IfOk result (IsForm text.now) }
     ensures fault { IfErr result (Refuses (FitsNoForm text.now)) }
 {
     if let Some(rest) = text.strip_prefix("workspace:") {
-        let spec = read_workspace(alloc, rest)?;
-        return Ok(Spec::Workspace(spec));
+        return match read_workspace(alloc, rest) {
+            Ok(spec) => Ok(Spec::Workspace(spec)),
+            Err(fault) => Err(fault),
+        };
     }
     if let Some(rest) = text.strip_prefix("catalog:") {
-        let name = read_catalog(alloc, rest)?;
-        return Ok(Spec::Catalog(name));
+        return match read_catalog(alloc, rest) {
+            Ok(name) => Ok(Spec::Catalog(name)),
+            Err(fault) => Err(fault),
+        };
     }
     if let Some(rest) = text.strip_prefix("npm:") {
-        let (name, want) = read_alias(alloc, rest)?;
-        return Ok(Spec::Alias(name, want));
+        return match read_alias(alloc, rest) {
+            Ok((name, want)) => Ok(Spec::Alias(name, want)),
+            Err(fault) => Err(fault),
+        };
     }
     match read_want(alloc, text)? {
         Want::Range(range) => Ok(Spec::Range(range)),

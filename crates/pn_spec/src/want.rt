@@ -25,7 +25,9 @@ pub(crate) fn read_range(alloc: Global, text: &str) -> Result<Option<Range>, Mem
     match Range::read(alloc, text) {
         Ok(range) => Ok(Some(range)),
         Err(RangeFault::Memory) => Err(Memory),
-        Err(_) => Ok(None),
+        Err(RangeFault::BadByte(_)) => Ok(None),
+        Err(RangeFault::NumberTooLarge(_)) => Ok(None),
+        Err(RangeFault::TooMany) => Ok(None),
     }
 }
 
