@@ -1,5 +1,5 @@
 -- A text has one count of comparators.
-use Rattle.std.proofs.Common.{◌≡◌, ◌≤◌, ◌<◌, ℕ, Bool, true, false, List, [], ◌∷◌, ◌++◌, refl, sym, ap, subst, ◌∙◌, arith, append_assoc, append-nil}
+use Rattle.std.proofs.Common.{◌≡◌, ◌<◌, ℕ, true, false, List, [], ◌∷◌, ◌++◌, refl, sym, ap, ◌∙◌, arith, append_assoc, append-nil}
 use Rattle.std.specs.Prelude.{◌==◌, ◌+◌}
 use Rattle.std.proofs.lemmas.Bool.Decides.{nat_tests}
 use Rattle.pn_ranges.specs.declared.comparator.Sign.{Sign}
@@ -12,7 +12,7 @@ use Rattle.pn_ranges.specs.Table.{Named}
 use Rattle.pn_ranges.specs.Unread.{Closes, ends_range}
 use Rattle.pn_ranges.proofs.Bars.{no-tail, no_bar, spaced-bars, tail-of}
 use Rattle.pn_ranges.proofs.Fronts.{behind-append}
-use Rattle.pn_ranges.proofs.Same.{First, Shape, behind-operand, comparator-mark, comparator-shape, end-first, end-shape, first-more, head-same, is_body, is_head, is_mark, same-shape, same-split, shape-at}
+use Rattle.pn_ranges.proofs.Same.{Shape, behind-operand, comparator-mark, comparator-shape, end-first, end-shape, first-more, head-same, is_body, is_head, is_mark, same-shape, same-split, shape-at}
 use Rattle.pn_ranges.proofs.Unreads.{closes-body, closes-spaces, gap-body}
 
 -- where a comparator begins no range ends

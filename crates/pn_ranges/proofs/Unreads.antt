@@ -1,10 +1,8 @@
 -- Where a limit doesn't fit there is no reading.
-use Rattle.std.proofs.Common.{◌≡◌, ◌≢◌, ℕ, suc, Bool, true, false, List, [], ◌∷◌, ◌++◌, length, Some, refl, sym, ap, subst, ◌∙◌, inl, inr, append_assoc, append-nil}
-use Rattle.std.specs.Prelude.{◌==◌, ◌||◌, ◌+◌, not}
+use Rattle.std.proofs.Common.{◌≡◌, ◌≢◌, ℕ, true, false, List, [], ◌∷◌, ◌++◌, length, refl, sym, ap, subst, ◌∙◌, inl, inr, append_assoc, append-nil}
+use Rattle.std.specs.Prelude.{◌==◌}
 use Rattle.std.specs.List.{list_all}
 use Rattle.std.proofs.lemmas.Bool.{cases_Bool}
-use Rattle.std.proofs.lemmas.Bool.Decides.{nat_tests}
-use Rattle.std.proofs.Common.{arith}
 use Rattle.pn_ranges.specs.declared.comparator.Sign.{Sign}
 use Rattle.pn_ranges.specs.declared.comparator.Sign.TheVariants as x
 use Rattle.pn_ranges.specs.declared.fault.Stop.{Stop}
@@ -14,10 +12,10 @@ use Rattle.pn_ranges.specs.Grammar.{AreComparators, AreGaps, AreRanges, AreSpace
 use Rattle.pn_ranges.specs.Grammar as g
 use Rattle.pn_ranges.specs.Limits.{Limit}
 use Rattle.pn_ranges.specs.Places.{first_fault, gap, start}
-use Rattle.pn_ranges.specs.Reading.{SpacedAt, SpacedRange, Stops, UpperAt}
-use Rattle.pn_ranges.specs.Table.{Named, any, full, major, minor, all_fit, between, limits, upper_limits, fits, lower_limits}
+use Rattle.pn_ranges.specs.Reading.{SpacedAt, Stops, UpperAt}
+use Rattle.pn_ranges.specs.Table.{Named, any, full, major, minor, all_fit, between, limits, upper_limits}
 use Rattle.pn_ranges.specs.Unread.{Closes, NoComparators, NoLater, NoRanges, NoUpper, ends_range}
-use Rattle.pn_ranges.proofs.Fronts.{behind-append, behind-same, behind-stops}
+use Rattle.pn_ranges.proofs.Fronts.{behind-append}
 use Rattle.pn_ranges.proofs.OverProofs.{all-append}
 use Rattle.pn_ranges.proofs.Same.{Same, Shape, is_body, is_mark, behind-all, comparator-mark, comparator-shape, end-shape, head-same, same-end, same-fit, same-shape, shape-at, upper-bare}
 use Rattle.pn_ranges.proofs.Steps.{run}
