@@ -1,5 +1,5 @@
 -- Lemmas on the stages of a run.
-use Rattle.std.proofs.Common.{◌≡◌, List, ◌∷◌, subst, sym, ◌∙◌, Ok, Err, inl, inr, ◌⊎◌, Bool, true, false, not, ap}
+use Rattle.std.proofs.Common.{◌≡◌, List, ◌∷◌, subst, ◌∙◌, Ok, Err, inl, inr, true, ap}
 use Rattle.std.specs.Prelude.{Result, IfOk, IfErr}
 use Rattle.serde_json.specs.Data.{Data}
 use Rattle.pn_text.specs.Path.{Path}
@@ -17,15 +17,15 @@ use Rattle.pn_cmd.specs.declared.status.Status.{Status}
 use Rattle.pn_cmd.specs.declared.ready.Ready.{Ready}
 use Rattle.pn_cmd.specs.World.{Sources, Inputs, sources, AreKept}
 use Rattle.pn_cmd.specs.Names.{package_name, workspace_name, lock_name, is_install}
-use Rattle.pn_cmd.specs.Refuses.{Computes, ReadsProject, ReadsRegistry}
+use Rattle.pn_cmd.specs.Refuses.{ReadsProject}
 use Rattle.pn_cmd.specs.Standing.{NothingStands, Stands}
-use Rattle.pn_cmd.specs.Manifests.{IsFound, IsProjectManifest, NoManifest}
+use Rattle.pn_cmd.specs.Manifests.{IsFound, IsProjectManifest}
 use Rattle.pn_cmd.specs.Graph.{Unreached}
 use Rattle.pn_cmd.specs.Packages.{Unlisted}
-use Rattle.pn_cmd.specs.Plans.{modules_path, TooLong, Fits, IsPlan}
-use Rattle.pn_cmd.specs.Order.{Refused, RefusedFrom, RefusedBehind, RefusedGraph, RefusedTree, RefusedPackages, PassedTree, PassedBehind}
+use Rattle.pn_cmd.specs.Plans.{modules_path, Fits, IsPlan}
+use Rattle.pn_cmd.specs.Order.{Refused, RefusedBehind, RefusedGraph, RefusedTree, RefusedPackages, PassedTree, PassedBehind}
 use Rattle.pn_cmd.specs.Readies.{IsReady, IsReadyBehind, IsReadyTree}
-use Rattle.pn_cmd.proofs.Steps.{project_from, registry_from, then_from, kept_twice, kept_both, project_kept}
+use Rattle.pn_cmd.proofs.Steps.{project_from, registry_from, then_from, kept_twice, project_kept}
 
 -- what a manifest asks for is what its object says
 pub same_edges : (d : Data) (m : Manifest) → Says d m → edges_by m ≡ edges_of d
@@ -78,11 +78,6 @@ ready_tree place own met old ready slice modules listed is fits plan =
       plan = subst (λ (l : List Package). IsPlan place own l ready.plan) is plan;
     }
 
--- packages that aren't reached, behind the lockfile's place
-pub graph_err : (s : Status) (place : Path) (d : Data) (m : Manifest) (old new : Sources) → Says d m → NothingStands old.project.tree (lock_name ∷ place)
-    → ReadsRegistry (Unreached (edges_by m) old.registry.tree) old.registry new.registry s → RefusedBehind place d old new s
-graph_err s place d m old new says lock h = inr (lock, inl (subst (λ own. ReadsRegistry (Unreached own old.registry.tree) old.registry new.registry s) (same_edges d m says) h))
-
 -- what is answered behind the packages that are reached
 pub tree_err : {T : Type 0} (r : Result T Status) (place : Path) (m : Manifest) (old mid new : Sources) (met : List Found) → NothingStands old.project.tree (lock_name ∷ place) → AreKept old mid
     → IsReached old.registry.tree (edges_by m) met → IfErr r (RefusedTree place (edges_by m) met mid new) → IfErr r (λ s. (d : Data) → Says d m → RefusedBehind place d old new s)
@@ -133,13 +128,3 @@ behind_ok (Ok ready) i old one two m words ws k found l h =
       };
       plan = behind.plan;
     }
-
--- a refusal of the project's manifest, behind the workspace file
-pub manifest_err : (s : Status) (i : Inputs) (old : Sources) (one new : Seen) → is_install i.words ≡ true → NothingStands old.project.tree (workspace_name ∷ i.place) → Keeps old.project one
-    → ReadsProject (NoManifest (package_name ∷ i.place) one.tree) one new s → Refused i old (sources new old.registry) s
-manifest_err s i old one new words ws k h =
-    inr (words, inr (ws, inl (project_from (NoManifest (package_name ∷ i.place) one.tree) (NoManifest (package_name ∷ i.place) old.project.tree) old.project one new s k.later (subst (λ t. NoManifest (package_name ∷ i.place) t s) k.tree) h)))
-
--- all that was only read is as it was
-pub all_kept : (old new : Sources) (one two : Seen) → Keeps old.project one → Keeps one two → AreKept (sources two old.registry) new → AreKept old new
-all_kept old new one two k l all = kept_both old (sources two old.registry) new (project_kept old.project two old.registry (kept_twice old.project one two k l)) all

@@ -4,7 +4,7 @@ use Rattle.pn_text.specs.Causes.{Rose}
 use Rattle.pn_fs.specs.Seen.{Seen, Keeps}
 use Rattle.pn_cmd.specs.declared.status.Status.{Status}
 use Rattle.pn_cmd.specs.declared.status.Status.TheVariants.{Memory, ProjectFault, RegistryFault}
-use Rattle.pn_cmd.specs.World.{Sources, sources, AreKept}
+use Rattle.pn_cmd.specs.World.{sources, AreKept}
 use Rattle.pn_cmd.specs.Refuses.{Computes, ReadsProject, ReadsRegistry}
 
 -- a count that rose behind a place rose from before it
@@ -16,9 +16,6 @@ kept_twice a b c h k = record { tree = k.tree ∙ h.tree; touched = k.touched �
 
 pub unchanged : (a : Seen) → Keeps a a
 unchanged a = record { tree = refl; touched = refl; later = omega arith }
-
-pub kept_both : (a b c : Sources) → AreKept a b → AreKept b c → AreKept a c
-kept_both a b c h k = record { project = kept_twice a.project b.project c.project h.project k.project; registry = kept_twice a.registry b.registry c.registry h.registry k.registry }
 
 -- calls of the project alone
 pub project_kept : (a b registry : Seen) → Keeps a b → AreKept (sources a registry) (sources b registry)
