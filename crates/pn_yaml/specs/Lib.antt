@@ -1,0 +1,12 @@
+pub mod Data
+pub mod View
+pub mod Outcome
+pub mod Bytes
+pub mod Scalars
+pub mod Flow
+pub mod Rows
+pub mod Blocks
+pub mod Words
+pub mod Printing
+pub mod Laws
+pub mod Samples

@@ -1,0 +1,63 @@
+// The refusals.
+ghost use Rattle.std.specs.Prelude.{◌≡◌};
+ghost use Rattle.pn_yaml.specs.declared.fault.YamlFault.TheVariants.{Memory as no_memory};
+
+use pn_text::Memory;
+use std::alloc::{AllocError, AllocFailed};
+
+/// What is wrong with a line.
+#[derive(Clone, Copy, Debug, PartialEq, Eq)]
+pub enum Why {
+    /// A tab stands in the indentation.
+    Tab,
+    /// The line goes on with no block that is open.
+    Indent,
+    /// No key stands where one must.
+    Key,
+    /// A quote isn't closed, or bytes stand behind a closed one.
+    Quote,
+    /// A backslash begins no escape.
+    Escape,
+    /// A flow isn't closed, or has a wrong byte.
+    Flow,
+    /// The map has the key already.
+    Twice,
+    /// A form of YAML that isn't read: an anchor, an alias, a tag, a directive, an explicit key, a second document.
+    LeftOut,
+}
+
+/// Why bytes are no text of the subset.
+#[derive(Clone, Copy, Debug, PartialEq, Eq)]
+pub enum YamlFault {
+    /// The bytes are no UTF-8.
+    NotUtf8,
+    /// The first line at fault, counted from 1.
+    Line(u32, Why),
+    /// Scalars, lists and maps are nested more than 64 deep.
+    TooDeep,
+    Memory,
+}
+
+impl From<AllocError> for YamlFault {
+    ghost from_gives = { λ _ e. e ≡ no_memory };
+
+    fn from(_: AllocError) -> Self {
+        YamlFault::Memory
+    }
+}
+
+impl<T: Drop> From<AllocFailed<T>> for YamlFault {
+    ghost from_gives = { λ _ e. e ≡ no_memory };
+
+    fn from(_: AllocFailed<T>) -> Self {
+        YamlFault::Memory
+    }
+}
+
+impl From<Memory> for YamlFault {
+    ghost from_gives = { λ _ e. e ≡ no_memory };
+
+    fn from(_: Memory) -> Self {
+        YamlFault::Memory
+    }
+}
