@@ -2,8 +2,10 @@
 #![tactic(auto)]
 
 mod fault;
+mod laws;
 mod node;
 mod scalar;
 
 pub use fault::{Why, YamlFault};
+pub use laws::read_law;
 pub use node::{Node, Scalar};
