@@ -1,3 +1,5 @@
+pub mod WordLaw
+pub mod FlowLaw
 pub mod Outcomes
 pub mod FlowApart
 pub mod BlockApart
