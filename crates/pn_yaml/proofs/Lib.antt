@@ -3,3 +3,4 @@ pub mod FlowLaw
 pub mod Outcomes
 pub mod FlowApart
 pub mod BlockApart
+pub mod PrintedBytes
