@@ -4,3 +4,4 @@ pub mod Outcomes
 pub mod FlowApart
 pub mod BlockApart
 pub mod PrintedBytes
+pub mod PrintedLines
