@@ -5,3 +5,4 @@ pub mod FlowApart
 pub mod BlockApart
 pub mod PrintedBytes
 pub mod PrintedLines
+pub mod PrintedRows
