@@ -6,3 +6,5 @@ pub mod BlockApart
 pub mod PrintedBytes
 pub mod PrintedLines
 pub mod PrintedRows
+pub mod BlockLaw
+pub mod ValueLaw
