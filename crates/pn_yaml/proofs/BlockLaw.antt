@@ -20,7 +20,7 @@ abbrev pub AreLower : ℕ → List Row → Type 0
 AreLower bound [] = Unit {0}
 AreLower bound (row ∷ rows) = row_indentation row < bound
 
-lower-more : (bound other : ℕ) (rows : List Row) → bound ≤ other → AreLower bound rows → AreLower other rows
+pub lower-more : (bound other : ℕ) (rows : List Row) → bound ≤ other → AreLower bound rows → AreLower other rows
 lower-more bound other [] h l = tt
 lower-more bound other (row ∷ rows) h l = omega arith
 
@@ -109,7 +109,7 @@ rows-longer : (xs : List (List ℕ)) (n : ℕ) (more : List Row) → length more
 rows-longer [] n more = omega arith
 rows-longer (x ∷ xs) n more = let h = rows-longer xs (suc n) more in omega arith
 
-rows-behind : (xs ys : List (List ℕ)) (n : ℕ) (more : List Row) → length (rows_on (number_behind n xs) ys more) ≤ length (rows_on n (xs ++ ys) more)
+pub rows-behind : (xs ys : List (List ℕ)) (n : ℕ) (more : List Row) → length (rows_on (number_behind n xs) ys more) ≤ length (rows_on n (xs ++ ys) more)
 rows-behind xs ys n more =
     let h = rows-longer xs n (rows_on (number_behind n xs) ys more) in
     let e = ap (λ (z : List Row). length z) (rows-append xs ys n more) in

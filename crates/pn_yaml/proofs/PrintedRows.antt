@@ -69,7 +69,7 @@ row-from n indent b rest h m =
       comes = first-comes (record { line = n; bytes = spaces indent ++ (b ∷ rest) }) b rest e h m;
     }
 
-three-false : (c b : ℕ) (rest : List ℕ) → (b == c) ≡ false → is_three c (b ∷ rest) ≡ false
+pub three-false : (c b : ℕ) (rest : List ℕ) → (b == c) ≡ false → is_three c (b ∷ rest) ≡ false
 three-false c b [] h = refl
 three-false c b (d ∷ []) h = refl
 three-false c b (d ∷ e ∷ rest) h = and_left _ _ (and_left _ _ (and_left _ _ h))

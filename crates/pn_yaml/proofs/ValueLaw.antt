@@ -1,7 +1,7 @@
 -- Printed values are read back, and then whole maps.
 use Rattle.std.proofs.Common.{◌≡◌, ◌<◌, ◌≤◌, ◌+◌, ℕ, zero, suc, Bool, true, false, List, [], ◌∷◌, ◌++◌, length, Option, Some, None, Result, Ok, refl, sym, ap, subst, ◌∙◌, arith, append-nil}
 use Rattle.std.specs.Prelude.{◌==◌, ◌&&◌, ◌||◌, not, nat_lt, if◌then◌else◌, bytes_eq, codes}
-use Rattle.std.proofs.lemmas.Bool.{and_left, cond-false, cond-true, le-ltb, lt-ltb, or_from, or_left}
+use Rattle.std.proofs.lemmas.Bool.{true≢false, and_left, cond-false, cond-true, le-ltb, lt-ltb, or_from, or_left}
 use Rattle.pn_yaml.specs.declared.fault.Why.TheVariants as why
 use Rattle.pn_yaml.specs.declared.scalar.Place.TheVariants as place
 use Rattle.pn_yaml.specs.Bytes.{space, starts, is_empty, unindented, is_bare, is_blank, trimmed}
@@ -9,18 +9,18 @@ use Rattle.pn_yaml.specs.Data.{Data, scalar, list, map, Items, no_items, item, M
 use Rattle.pn_yaml.specs.Laws.{IsPrintable, PrintLaw}
 use Rattle.pn_yaml.specs.Outcome.{◌>>=◌}
 use Rattle.pn_yaml.specs.Words.{is_plain, word_text}
-use Rattle.pn_yaml.specs.Printing.{Level, root as at_root, spread, dense, below, flow_marked, flow_text, is_flow_key, item_marked, item_text, items_marked, key_text, marked, members_marked, printed, value_marked}
+use Rattle.pn_yaml.specs.Printing.{Level, root as at_root, spread, dense, below, flow_marked, flow_text, is_flow_key, item_marked, item_text, items_marked, key_text, marked, members_marked, printed, spaces, value_marked}
 use Rattle.pn_yaml.specs.Scalars.{Word, plain_front, on_some, word_at}
 use Rattle.pn_yaml.specs.Flow.{flow_at, is_flow}
-use Rattle.pn_yaml.specs.Rows.{Row, ahead, content, first_ahead, is_three, numbered, passed, row_indentation, rows_of, unopened}
+use Rattle.pn_yaml.specs.Rows.{Row, ahead, content, first_ahead, is_passed_over, is_three, numbered, passed, row_indentation, rows_of, unopened}
 use Rattle.pn_yaml.specs.Blocks.{Style, alone, block_at, block_items, block_members, ending, is_below, is_item, list_in, map_in, nested, root, root_at, scalar_block, scalar_on, style_of, text_says, unwritten, value_on}
 use Rattle.pn_yaml.proofs.Outcomes.{bind_ok}
 use Rattle.pn_yaml.proofs.WordLaw.{Begins, value_law}
 use Rattle.pn_yaml.proofs.FlowLaw.{flow_law}
 use Rattle.pn_yaml.proofs.PrintedBytes.{differs, is_opening, word-opens}
 use Rattle.pn_yaml.proofs.PrintedLines.{items_rows, key-opens, member_line, members_rows, printed-rows, root_rows, value_front, value_rows}
-use Rattle.pn_yaml.proofs.PrintedRows.{IsRow, item-row, member-row, numbered-rows, rows_on}
-use Rattle.pn_yaml.proofs.BlockLaw.{AreLower, ReadsItems, ReadsValues, ahead-items, ahead-members, behind_gap, items-back, items-fit, items_start, key-no_item, members-back, members-fit, members_start}
+use Rattle.pn_yaml.proofs.PrintedRows.{item-row, member-row, number_behind, numbered-rows, rows_on, three-false}
+use Rattle.pn_yaml.proofs.BlockLaw.{AreLower, ReadsItems, ReadsValues, ahead-members, behind_gap, items-back, items-fit, key-no_item, lower-more, members-back, members-fit, rows-behind}
 
 first-text : (b : ℕ) (rest : List ℕ) → (b == 32) ≡ false → unindented (b ∷ rest) ≡ b ∷ rest
 first-text b rest h = cond-false (b == 32) (unindented rest) (b ∷ rest) h
@@ -95,18 +95,48 @@ below-back : (levels indent : ℕ) (row first : Row) (rows more : List Row) (d :
     → indent < row_indentation first → block_at (value_on levels) first more ≡ Ok (d, next) → value_on (suc levels) true [] row rows ≡ Ok (d, next)
 below-back levels indent row first rows more d next same h deep block =
     bind_ok (ahead rows) (first ∷ more) (λ z. nested (value_on levels) (row_indentation row) z) h
-    ∙ cond-true (is_below (row_indentation row) first) _ _ (or_left _ _ (lt-ltb _ _ (omega arith)))
+    ∙ cond-true (is_below (row_indentation row) first) _ _ (or_left _ _ (lt-ltb (row_indentation row) (row_indentation first) (omega arith)))
     ∙ block
 
 list-back : (levels : ℕ) (d : Data) (ds : Items) (n indent : ℕ) (row : Row) (more next : List Row) → depth (list (item d ds)) ≤ suc levels → are_apart (list (item d ds)) ≡ true
     → row_indentation row ≡ indent → ahead more ≡ Ok next → AreLower (suc indent) next
     → value_on (suc levels) true [] row (rows_on n (items_rows (2 + indent) (item d ds)) more) ≡ Ok (list (items_marked (item d ds)), next)
-list-back levels d ds n indent row more next flat apart same h l = ?
+list-back levels d ds n indent row more next flat apart same h l =
+    let first : Row = record { line = n; bytes = spaces (2 + indent) ++ (45 ∷ space ∷ item_text d) } in
+    let rows : List Row = rows_on (suc n) (items_rows (2 + indent) ds) more in
+    let r = item-row n (2 + indent) d (omega arith) in
+    let block : block_at (value_on levels) first rows ≡ Ok (list (items_marked (item d ds)), next) =
+      cond-true (is_item (content first)) _ _ (ap is_item r.shows)
+      ∙ ap (λ i. list_in (block_items (value_on levels) i (suc (length rows)) (first ∷ rows))) r.indented
+      ∙ ap list_in (items-back levels (value_on levels) (item-back levels) (item d ds) n (2 + indent) (suc (length rows)) more next (omega arith) (omega arith) apart
+      (let f = items-fit ds (suc n) (2 + indent) more in omega arith) h (lower-more (suc indent) (2 + indent) next (omega arith) l)) in
+    below-back levels indent row first (first ∷ rows) rows (list (items_marked (item d ds))) next same (r.comes rows) (let e = r.indented in omega arith) block
+
+-- a block map that begins with this key
+map-block : (levels : ℕ) → ReadsValues levels (value_on levels) → (level : Level) (k : List ℕ) (d : Data) (ms : Members) (n indent : ℕ) (more next : List Row)
+    → depth (map (member k d ms)) ≤ suc levels → are_apart (map (member k d ms)) ≡ true → ahead more ≡ Ok next → AreLower indent next
+    → block_at (value_on levels) (record { line = n; bytes = member_line indent k d })
+    (rows_on (suc n) (value_rows (below level k) (is_flow_key k) indent d ++ members_rows level indent ms) more)
+    ≡ Ok (map (members_marked (member k d ms)), next)
+map-block levels reads level k d ms n indent more next flat apart h l =
+    let first : Row = record { line = n; bytes = member_line indent k d } in
+    let lines : List (List ℕ) = value_rows (below level k) (is_flow_key k) indent d in
+    let rows : List Row = rows_on (suc n) (lines ++ members_rows level indent ms) more in
+    let r = member-row n indent k d in
+    cond-false (is_item (content first)) _ _ (key-no_item first k (value_front (is_flow_key k) d) r.shows)
+    ∙ ap (λ i. map_in (block_members (value_on levels) i (suc (length rows)) [] (first ∷ rows))) r.indented
+    ∙ ap map_in (members-back levels (value_on levels) reads (member k d ms) level n indent (suc (length rows)) [] more next (omega arith) apart
+    (let f = members-fit ms level (number_behind (suc n) lines) indent more in let g = rows-behind lines (members_rows level indent ms) (suc n) more in omega arith) h l)
 
 map-back : (levels : ℕ) → ReadsValues levels (value_on levels) → (level : Level) (k : List ℕ) (d : Data) (ms : Members) (n indent : ℕ) (row : Row) (more next : List Row)
     → depth (map (member k d ms)) ≤ suc levels → are_apart (map (member k d ms)) ≡ true → row_indentation row ≡ indent → ahead more ≡ Ok next → AreLower (suc indent) next
     → value_on (suc levels) true [] row (rows_on n (members_rows level (2 + indent) (member k d ms)) more) ≡ Ok (map (members_marked (member k d ms)), next)
-map-back levels reads level k d ms n indent row more next flat apart same h l = ?
+map-back levels reads level k d ms n indent row more next flat apart same h l =
+    let first : Row = record { line = behind_gap level n; bytes = member_line (2 + indent) k d } in
+    let rows : List Row = rows_on (suc (behind_gap level n)) (value_rows (below level k) (is_flow_key k) (2 + indent) d ++ members_rows level (2 + indent) ms) more in
+    below-back levels indent row first (rows_on n (members_rows level (2 + indent) (member k d ms)) more) rows (map (members_marked (member k d ms))) next same
+    (ahead-members (member k d ms) level n (2 + indent) more next h) (let e = (member-row (behind_gap level n) (2 + indent) k d).indented in omega arith)
+    (map-block levels reads level k d ms (behind_gap level n) (2 + indent) more next flat apart h (lower-more (suc indent) (2 + indent) next (omega arith) l))
 
 value-back : (levels : ℕ) → ReadsValues levels (value_on levels)
 value-back zero d level flow n indent row more next flat apart same h l = let f = filled d in absurd (omega arith)
@@ -118,3 +148,32 @@ value-back (suc levels) (map no_members) level false n indent row more next flat
 value-back (suc levels) (map (member k d ms)) level true n indent row more next flat apart same h l = flow-back levels true (map (member k d ms)) row more next refl refl refl flat apart h
 value-back (suc levels) (map (member k d ms)) level false n indent row more next flat apart same h l =
     map-back levels (value-back levels) level k d ms n indent row more next flat apart same h l
+
+root-back : (levels : ℕ) (k : List ℕ) (d : Data) (ms : Members) → depth (map (member k d ms)) ≤ suc levels → are_apart (map (member k d ms)) ≡ true
+    → block_at (value_on levels) (record { line = 1; bytes = member_line 0 k d })
+    (rows_on 2 (value_rows (below at_root k) (is_flow_key k) 0 d ++ members_rows at_root 0 ms) []) ≡ Ok (map (members_marked (member k d ms)), [])
+root-back levels k d ms flat apart = map-block levels (value-back levels) at_root k d ms 1 0 [] [] flat apart refl tt
+
+text-back : (k : List ℕ) (d : Data) (ms : Members) → depth (map (member k d ms)) ≤ 64 → are_apart (map (member k d ms)) ≡ true
+    → text_says (printed (map (member k d ms))) ≡ Ok (map (members_marked (member k d ms)))
+text-back k d ms flat apart =
+    let first : Row = record { line = 1; bytes = member_line 0 k d } in
+    let rows : List Row = rows_on 2 (value_rows (below at_root k) (is_flow_key k) 0 d ++ members_rows at_root 0 ms) [] in
+    let r = member-row 1 0 k d in
+    let o = key-opens k (value_front (is_flow_key k) d) in
+    let lines : rows_of (printed (map (member k d ms))) ≡ first ∷ rows = printed-rows k d ms ∙ numbered-rows (root_rows k d ms) 1 in
+    let ahead_of : first_ahead (first ∷ rows) ≡ Ok (first ∷ rows) =
+      ap (λ z. ahead (unopened z)) (cond-false (is_passed_over first) _ _ r.stays)
+      ∙ ap ahead (cond-false (is_three 45 first.bytes) _ _ (ap (is_three 45) o.whole ∙ three-false 45 o.first o.later (differs is_opening o.first 45 o.good refl)))
+      ∙ r.comes rows in
+    let flow : is_flow first.bytes ≡ false = ap is_flow o.whole ∙ or_from _ _ (differs is_opening o.first 91 o.good refl) (differs is_opening o.first 123 o.good refl) in
+    bind_ok (first_ahead (rows_of (printed (map (member k d ms))))) (first ∷ rows) root (ap first_ahead lines ∙ ahead_of)
+    ∙ ap alone (cond-false (nat_lt 0 (row_indentation first)) _ _ (le-ltb 0 (row_indentation first) (let e = r.indented in omega arith))
+    ∙ cond-false (is_flow first.bytes) _ _ flow
+    ∙ root-back 63 k d ms flat apart)
+
+pub print-law : PrintLaw
+print-law (scalar text plain) p = absurd (true≢false (sym p.map))
+print-law (list ds) p = absurd (true≢false (sym p.map))
+print-law (map no_members) p = refl
+print-law (map (member k d ms)) p = text-back k d ms p.flat p.apart

@@ -7,5 +7,5 @@ mod node;
 mod scalar;
 
 pub use fault::{Why, YamlFault};
-pub use laws::read_law;
+pub use laws::{print_law, read_law};
 pub use node::{Node, Scalar};
