@@ -1,9 +1,9 @@
 -- Printed blocks are read back by a reader that reads back the values in them.
-use Rattle.std.proofs.Common.{◌≡◌, ◌<◌, ◌≤◌, ◌+◌, ℕ, zero, suc, Bool, true, false, List, [], ◌∷◌, ◌++◌, length, Result, Ok, refl, sym, ap, subst, ◌∙◌, arith}
+use Rattle.std.proofs.Common.{◌≡◌, ◌<◌, ◌≤◌, ℕ, zero, suc, Bool, true, false, List, [], ◌∷◌, ◌++◌, length, Ok, refl, ap, ◌∙◌, arith}
 use Rattle.std.specs.Prelude.{◌==◌, ◌&&◌, not, nat_lt, if◌then◌else◌}
 use Rattle.std.proofs.lemmas.Bool.{and_from, and_left, and_parts, cond-false, cond-true, eq-eqb, le-ltb, lt-ltb, ne_eqb, not-true}
 use Rattle.pn_yaml.specs.declared.fault.Why.TheVariants as why
-use Rattle.pn_yaml.specs.Bytes.{space, starts, ends_word, tail_of}
+use Rattle.pn_yaml.specs.Bytes.{space, ends_word, tail_of}
 use Rattle.pn_yaml.specs.Data.{Data, scalar, list, map, Items, no_items, item, Members, no_members, member, depth, items_depth, members_depth, are_apart, items_apart, members_apart, is_among}
 use Rattle.pn_yaml.specs.Outcome.{◌>>=◌, wrong}
 use Rattle.pn_yaml.specs.Printing.{Level, root, spread, dense, below, is_flow_key, item_marked, items_marked, item_text, key_text, members_marked, spaces, value_marked}
@@ -74,7 +74,7 @@ items-back levels value reads (item d ds) n indent (suc steps) more next z flat 
     let start : List Row = items_start (suc n) indent ds more next in
     let p = and_parts (are_apart d) (items_apart ds) apart in
     let here : value false (tail_of (content row)) row rows ≡ Ok (item_marked d, start) =
-      ap (λ t. value false (tail_of t) row rows) r.shows ∙ reads d row rows start (omega arith) p.0 (ahead-items ds (suc n) indent more next z h) in
+    ap (λ t. value false (tail_of t) row rows) r.shows ∙ reads d row rows start (omega arith) p.0 (ahead-items ds (suc n) indent more next z h) in
     cond-true ((row_indentation row == indent) && is_item (content row)) _ _ (item-is row indent d r)
     ∙ bind_ok (value false (tail_of (content row)) row rows) (item_marked d, start) (λ v. with_item v.0 (block_items value indent steps v.1)) here
     ∙ ap (with_item (item_marked d)) (items-back levels value reads ds (suc n) indent steps more next z (omega arith) p.1 (omega arith) h l)
@@ -178,10 +178,10 @@ members-back levels value reads (member k d ms) level n indent (suc steps) seen 
     let p = and_parts (not (is_among k seen)) (are_apart d && members_apart (k ∷ seen) ms) apart in
     let q = and_parts (are_apart d) (members_apart (k ∷ seen) ms) p.1 in
     let here : block_member value seen row (rows_on (suc n) (lines ++ members_rows level indent ms) more) ≡ Ok ((k, value_marked (is_flow_key k) d), start) =
-      ap (block_member value seen row) (rows-append lines (members_rows level indent ms) (suc n) more)
-      ∙ member-back levels value reads (below level k) k d n indent seen later start (omega arith) q.0 (not-true _ p.0)
-      (ahead-members ms level (number_behind (suc n) lines) indent more next h)
-      (start-lower ms level (behind_gap level (number_behind (suc n) lines)) indent more next l) in
+    ap (block_member value seen row) (rows-append lines (members_rows level indent ms) (suc n) more)
+    ∙ member-back levels value reads (below level k) k d n indent seen later start (omega arith) q.0 (not-true _ p.0)
+    (ahead-members ms level (number_behind (suc n) lines) indent more next h)
+    (start-lower ms level (behind_gap level (number_behind (suc n) lines)) indent more next l) in
     cond-false (nat_lt (row_indentation row) indent) _ _ (le-ltb _ _ (let e = r.indented in omega arith))
     ∙ cond-false (nat_lt indent (row_indentation row)) _ _ (le-ltb _ _ (let e = r.indented in omega arith))
     ∙ bind_ok (block_member value seen row (rows_on (suc n) (lines ++ members_rows level indent ms) more)) ((k, value_marked (is_flow_key k) d), start)

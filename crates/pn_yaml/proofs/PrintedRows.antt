@@ -1,14 +1,13 @@
 -- What a printed line shows: its indentation, and that it is no comment and no marker.
-use Rattle.std.proofs.Common.{◌≡◌, ◌<◌, ◌+◌, ℕ, zero, suc, Bool, true, false, List, [], ◌∷◌, ◌++◌, Ok, refl, sym, ap, subst, ◌∙◌, inl, inr, arith}
+use Rattle.std.proofs.Common.{◌≡◌, ◌<◌, ℕ, zero, suc, Bool, true, false, List, [], ◌∷◌, ◌++◌, Ok, refl, sym, ap, subst, ◌∙◌, inl, inr, arith}
 use Rattle.std.specs.Prelude.{◌==◌, ◌&&◌, ◌||◌, not}
-use Rattle.std.proofs.lemmas.Bool.{and_cases, and_left, and_right, both_ways, cond_both, cond-false, cond-true, or_from, or_parts}
+use Rattle.std.proofs.lemmas.Bool.{and_cases, and_left, and_right, both_ways, cond_both, cond-false, or_from, or_parts}
 use Rattle.pn_yaml.specs.Bytes.{space, starts, is_empty, indentation, unindented, is_blank, is_bare}
 use Rattle.pn_yaml.specs.Data.{Data}
-use Rattle.pn_yaml.specs.Words.{escaped, doubled, holds_pair, is_control, is_plain, word_text}
+use Rattle.pn_yaml.specs.Words.{escaped, doubled, holds_pair, is_control, is_plain}
 use Rattle.pn_yaml.specs.Printing.{is_flow_key, item_text, key_text, spaces}
 use Rattle.pn_yaml.specs.Rows.{Row, ahead, content, is_marker, is_passed_over, is_three, met, numbered, row_indentation}
 use Rattle.std.specs.List.{list_any}
-use Rattle.pn_yaml.proofs.WordLaw.{Begins}
 use Rattle.pn_yaml.proofs.PrintedBytes.{is_opening, differs, plain-text}
 use Rattle.pn_yaml.proofs.PrintedLines.{key-opens, member_line, value_front}
 
@@ -133,7 +132,7 @@ member-row n indent k d =
     let text : List ℕ = key_text false k ++ value_front (is_flow_key k) d in
     let o = key-opens k (value_front (is_flow_key k) d) in
     let m : is_marker (record { line = n; bytes = spaces indent ++ (o.first ∷ o.later) }) ≡ false =
-      subst (λ (t : List ℕ). is_marker (record { line = n; bytes = spaces indent ++ t }) ≡ false) o.whole (key-marker n indent k (value_front (is_flow_key k) d)) in
+    subst (λ (t : List ℕ). is_marker (record { line = n; bytes = spaces indent ++ t }) ≡ false) o.whole (key-marker n indent k (value_front (is_flow_key k) d)) in
     subst (λ (t : List ℕ). IsRow indent t (record { line = n; bytes = spaces indent ++ t })) (sym o.whole)
     (row-from n indent o.first o.later (opening-ink o.first o.good) m)
 

@@ -1,19 +1,19 @@
 -- Printed values are read back, and then whole maps.
-use Rattle.std.proofs.Common.{◌≡◌, ◌<◌, ◌≤◌, ◌+◌, ℕ, zero, suc, Bool, true, false, List, [], ◌∷◌, ◌++◌, length, Option, Some, None, Result, Ok, refl, sym, ap, subst, ◌∙◌, arith, append-nil}
-use Rattle.std.specs.Prelude.{◌==◌, ◌&&◌, ◌||◌, not, nat_lt, if◌then◌else◌, bytes_eq, codes}
+use Rattle.std.proofs.Common.{◌≡◌, ◌<◌, ◌≤◌, ◌+◌, ℕ, zero, suc, Bool, true, false, List, [], ◌∷◌, ◌++◌, length, None, Ok, refl, sym, ap, ◌∙◌, arith, append-nil}
+use Rattle.std.specs.Prelude.{◌==◌, ◌&&◌, ◌||◌, nat_lt, if◌then◌else◌, bytes_eq, codes}
 use Rattle.std.proofs.lemmas.Bool.{true≢false, and_left, cond-false, cond-true, le-ltb, lt-ltb, or_from, or_left}
 use Rattle.pn_yaml.specs.declared.fault.Why.TheVariants as why
 use Rattle.pn_yaml.specs.declared.scalar.Place.TheVariants as place
 use Rattle.pn_yaml.specs.Bytes.{space, starts, is_empty, unindented, is_bare, is_blank, trimmed}
-use Rattle.pn_yaml.specs.Data.{Data, scalar, list, map, Items, no_items, item, Members, no_members, member, depth, members_depth, are_apart, is_map}
-use Rattle.pn_yaml.specs.Laws.{IsPrintable, PrintLaw}
+use Rattle.pn_yaml.specs.Data.{Data, scalar, list, map, Items, no_items, item, Members, no_members, member, depth, are_apart}
+use Rattle.pn_yaml.specs.Laws.{PrintLaw}
 use Rattle.pn_yaml.specs.Outcome.{◌>>=◌}
 use Rattle.pn_yaml.specs.Words.{is_plain, word_text}
-use Rattle.pn_yaml.specs.Printing.{Level, root as at_root, spread, dense, below, flow_marked, flow_text, is_flow_key, item_marked, item_text, items_marked, key_text, marked, members_marked, printed, spaces, value_marked}
+use Rattle.pn_yaml.specs.Printing.{Level, root as at_root, below, flow_marked, flow_text, is_flow_key, item_text, items_marked, members_marked, printed, spaces}
 use Rattle.pn_yaml.specs.Scalars.{Word, plain_front, on_some, word_at}
 use Rattle.pn_yaml.specs.Flow.{flow_at, is_flow}
-use Rattle.pn_yaml.specs.Rows.{Row, ahead, content, first_ahead, is_passed_over, is_three, numbered, passed, row_indentation, rows_of, unopened}
-use Rattle.pn_yaml.specs.Blocks.{Style, alone, block_at, block_items, block_members, ending, is_below, is_item, list_in, map_in, nested, root, root_at, scalar_block, scalar_on, style_of, text_says, unwritten, value_on}
+use Rattle.pn_yaml.specs.Rows.{Row, ahead, content, first_ahead, is_passed_over, is_three, row_indentation, rows_of, unopened}
+use Rattle.pn_yaml.specs.Blocks.{alone, block_at, block_items, block_members, ending, is_below, is_item, list_in, map_in, nested, root, scalar_block, scalar_on, style_of, text_says, value_on}
 use Rattle.pn_yaml.proofs.Outcomes.{bind_ok}
 use Rattle.pn_yaml.proofs.WordLaw.{Begins, value_law}
 use Rattle.pn_yaml.proofs.FlowLaw.{flow_law}
@@ -72,7 +72,7 @@ flow-back : (levels : ℕ) (keyed : Bool) (d : Data) (row : Row) (more next : Li
     → value_on (suc levels) keyed (space ∷ flow_text d) row more ≡ Ok (flow_marked d, next)
 flow-back levels keyed d row more next bare flow same flat apart h =
     let law : flow_at (suc levels) row.line (flow_text d) ≡ Ok (flow_marked d, []) =
-      ap (λ t. flow_at (suc levels) row.line t) (sym (append-nil (flow_text d))) ∙ flow_law d (suc levels) row.line [] flat apart refl in
+    ap (λ t. flow_at (suc levels) row.line t) (sym (append-nil (flow_text d))) ∙ flow_law d (suc levels) row.line [] flat apart refl in
     cond-false (is_bare (space ∷ flow_text d)) _ _ bare
     ∙ cond-true (is_flow (unindented (flow_text d))) _ _ (ap is_flow same ∙ flow)
     ∙ bind_ok (flow_at (suc levels) row.line (unindented (flow_text d))) (flow_marked d, []) (λ f. ending why.Flow row.line f.0 f.1 more)
@@ -106,10 +106,10 @@ list-back levels d ds n indent row more next flat apart same h l =
     let rows : List Row = rows_on (suc n) (items_rows (2 + indent) ds) more in
     let r = item-row n (2 + indent) d (omega arith) in
     let block : block_at (value_on levels) first rows ≡ Ok (list (items_marked (item d ds)), next) =
-      cond-true (is_item (content first)) _ _ (ap is_item r.shows)
-      ∙ ap (λ i. list_in (block_items (value_on levels) i (suc (length rows)) (first ∷ rows))) r.indented
-      ∙ ap list_in (items-back levels (value_on levels) (item-back levels) (item d ds) n (2 + indent) (suc (length rows)) more next (omega arith) (omega arith) apart
-      (let f = items-fit ds (suc n) (2 + indent) more in omega arith) h (lower-more (suc indent) (2 + indent) next (omega arith) l)) in
+    cond-true (is_item (content first)) _ _ (ap is_item r.shows)
+    ∙ ap (λ i. list_in (block_items (value_on levels) i (suc (length rows)) (first ∷ rows))) r.indented
+    ∙ ap list_in (items-back levels (value_on levels) (item-back levels) (item d ds) n (2 + indent) (suc (length rows)) more next (omega arith) (omega arith) apart
+    (let f = items-fit ds (suc n) (2 + indent) more in omega arith) h (lower-more (suc indent) (2 + indent) next (omega arith) l)) in
     below-back levels indent row first (first ∷ rows) rows (list (items_marked (item d ds))) next same (r.comes rows) (let e = r.indented in omega arith) block
 
 -- a block map that begins with this key
@@ -163,9 +163,9 @@ text-back k d ms flat apart =
     let o = key-opens k (value_front (is_flow_key k) d) in
     let lines : rows_of (printed (map (member k d ms))) ≡ first ∷ rows = printed-rows k d ms ∙ numbered-rows (root_rows k d ms) 1 in
     let ahead_of : first_ahead (first ∷ rows) ≡ Ok (first ∷ rows) =
-      ap (λ z. ahead (unopened z)) (cond-false (is_passed_over first) _ _ r.stays)
-      ∙ ap ahead (cond-false (is_three 45 first.bytes) _ _ (ap (is_three 45) o.whole ∙ three-false 45 o.first o.later (differs is_opening o.first 45 o.good refl)))
-      ∙ r.comes rows in
+    ap (λ z. ahead (unopened z)) (cond-false (is_passed_over first) _ _ r.stays)
+    ∙ ap ahead (cond-false (is_three 45 first.bytes) _ _ (ap (is_three 45) o.whole ∙ three-false 45 o.first o.later (differs is_opening o.first 45 o.good refl)))
+    ∙ r.comes rows in
     let flow : is_flow first.bytes ≡ false = ap is_flow o.whole ∙ or_from _ _ (differs is_opening o.first 91 o.good refl) (differs is_opening o.first 123 o.good refl) in
     bind_ok (first_ahead (rows_of (printed (map (member k d ms))))) (first ∷ rows) root (ap first_ahead lines ∙ ahead_of)
     ∙ ap alone (cond-false (nat_lt 0 (row_indentation first)) _ _ (le-ltb 0 (row_indentation first) (let e = r.indented in omega arith))
