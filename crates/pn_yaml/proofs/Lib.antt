@@ -6,5 +6,6 @@ pub mod BlockApart
 pub mod PrintedBytes
 pub mod PrintedLines
 pub mod PrintedRows
+pub mod FlowBack
 pub mod BlockLaw
 pub mod ValueLaw
