@@ -1,2 +1,4 @@
+pub mod PlainRuns
+pub mod NodeViews
 pub mod WordLaw
 pub mod FlowLaw

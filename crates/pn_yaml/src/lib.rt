@@ -2,8 +2,13 @@
 #![tactic(auto)]
 
 mod fault;
+mod level;
 mod node;
+mod print_block;
+mod print_flow;
 mod scalar;
+mod word;
 
 pub use fault::{Why, YamlFault};
 pub use node::{Node, Scalar};
+pub use print_block::print;
