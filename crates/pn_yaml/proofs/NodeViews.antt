@@ -1,11 +1,12 @@
 -- A node, level by level, and what a flow still has to print behind some of its entries.
-use Rattle.std.proofs.Common.{length, get_or, true, add-one, append-nil, ◌≡◌, ℕ, zero, suc, ◌+◌, ◌<◌, ◌≤◌, List, [], ◌∷◌, ◌++◌, drop, refl, sym, ap, ◌∙◌, arith, rules, append_assoc}
-use Rattle.std.specs.Prelude.{map as each, replicate, take}
+use Rattle.std.proofs.Common.{Bool, false, length, get_or, true, add-one, append-nil, ◌≡◌, ℕ, zero, suc, ◌+◌, ◌<◌, ◌≤◌, List, [], ◌∷◌, ◌++◌, drop, refl, sym, ap, ◌∙◌, arith, rules, append_assoc}
+use Rattle.std.specs.Prelude.{◌==◌, replicate, take}
 use Rattle.std.proofs.lemmas.List.{drop_more}
 use Rattle.pn_yaml.specs.Bytes.{space}
 use Rattle.pn_yaml.specs.Data.{Data, scalar, list, map, Items, no_items, item, Members, no_members, member}
 use Rattle.pn_yaml.specs.View.{view, items_view, members_view}
-use Rattle.pn_yaml.specs.Printing.{flow_text, items_text, later_items_text, members_text, later_members_text, key_text, spaces}
+use Rattle.pn_yaml.specs.Printing.{Level, flow_text, items_lines, members_lines, value_lines, items_text, later_items_text, members_text, later_members_text, key_text, spaces}
+use Rattle.pn_yaml.specs.Levels.{list_lines}
 use Rattle.pn_yaml.specs.declared.node.Node.{Node, the_lemmas}
 use Rattle.pn_yaml.specs.declared.node.Node.TheVariants as node
 use Rattle.pn_yaml.specs.declared.node.Scalar.{Scalar}
@@ -37,10 +38,6 @@ abbrev pub members_from : ℕ → Members → List ℕ
 members_from zero ms = members_text ms
 members_from (suc i) ms = later_members_text ms
 
--- a text between two bytes
-pub between : (out a b c x text : List ℕ) (first last : ℕ) → a ≡ out ++ first ∷ [] → b ≡ a ++ x → c ≡ b ++ last ∷ [] → text ≡ first ∷ (x ++ last ∷ []) → c ≡ out ++ text
-between out a b c x text first last h i j k = j ∙ ap (λ y. y ++ last ∷ []) (i ∙ ap (λ y. y ++ x) h) ∙ ap (λ y. y ++ last ∷ []) (append_assoc out (first ∷ []) x) ∙ append_assoc out (first ∷ x) (last ∷ []) ∙ ap (λ y. out ++ y) (sym k)
-
 member_text : (i : ℕ) (k : List ℕ) (d : Data) (ms : Members) → members_from i (member k d ms) ≡ (comma i ++ (key_text true k ++ space ∷ flow_text d)) ++ later_members_text ms
 member_text zero k d ms = sym (append_assoc (key_text true k) (space ∷ flow_text d) (later_members_text ms))
 member_text (suc i) k d ms = ap (λ y. 44 ∷ space ∷ y) (sym (append_assoc (key_text true k) (space ∷ flow_text d) (later_members_text ms)))
@@ -68,3 +65,13 @@ comma_none (suc i) h = absurd (omega arith)
 pub comma_some : (i : ℕ) → 0 < i → comma i ≡ 44 ∷ 32 ∷ []
 comma_some zero h = absurd (omega arith)
 comma_some (suc i) h = refl
+
+pub list_opens : (indent : ℕ) (ns : List Node) → (length ns == 0) ≡ false → list_lines indent (items_view ns) ≡ 10 ∷ items_lines (2 + indent) (items_view ns)
+list_opens indent [] h = cc
+list_opens indent (n ∷ ns) h = refl
+
+pub map_opens : (level : Level) (flow : Bool) (indent : ℕ) (ms : List (List ℕ × Node)) → flow ≡ false → (length ms == 0) ≡ false
+    → value_lines level flow indent (map (members_view ms)) ≡ 10 ∷ members_lines level (2 + indent) (members_view ms)
+map_opens level flow indent [] f h = cc
+map_opens level true indent (m ∷ ms) f h = cc
+map_opens level false indent (m ∷ ms) f h = refl

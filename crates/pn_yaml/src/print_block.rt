@@ -1,15 +1,15 @@
 // Data as a text of blocks.
-ghost use Rattle.std.specs.Prelude.{◌≡◌, ◌+◌, ◌*◌, ◌≤◌, ◌∷◌, [], ◌++◌, IfOk, OnOk};
+ghost use Rattle.std.specs.Prelude.{false, ◌≡◌, ◌+◌, ◌*◌, ◌≤◌, ◌∷◌, [], ◌++◌, IfOk, OnOk};
 ghost use Rattle.pn_yaml.specs.Bytes.{space};
-ghost use Rattle.pn_yaml.specs.Data.{depth, items_depth, members_depth};
+ghost use Rattle.pn_yaml.specs.Data.{depth, map, members_depth};
 ghost use Rattle.pn_yaml.specs.Laws.{IsPrintable};
-ghost use Rattle.pn_yaml.specs.Levels.{level_of};
+ghost use Rattle.pn_yaml.specs.Levels.{level_of, list_lines};
 ghost use Rattle.pn_yaml.specs.Printing.{below, gap, is_flow_key, item_text, items_lines, key_text, members_lines, printed, value_lines};
 ghost use Rattle.pn_yaml.specs.View.{view, items_view, members_view};
 
 use crate::level::{Level, below, is_flow_key, spaces};
 use crate::node::Node;
-use crate::print_flow::{push_flow, push_key};
+use crate::print_flow::{push_flow_list, push_flow_map, push_key};
 use crate::word::push_word;
 use pn_text::{Memory, Text};
 use std::alloc::Global;
@@ -20,7 +20,8 @@ fn push_item(out: &mut Vec<u8>, node: &Node) -> Result<(), Memory>
 {
     match node {
         Node::Scalar(scalar) => push_word(out, false, scalar.text.as_str().as_bytes(), scalar.plain),
-        _ => push_flow(out, node),
+        Node::List(items) => push_flow_list(out, items.as_slice()),
+        Node::Map(members) => push_flow_map(out, members.as_slice()),
     }
 }
 
@@ -36,6 +37,19 @@ fn push_items(out: &mut Vec<u8>, indent: usize, items: &[Node]) -> Result<(), Me
         out.push(b'\n')?;
     }
     Ok(())
+}
+
+// What stands behind a key's colon, with the lines below, of a list.
+fn push_list(out: &mut Vec<u8>, indent: usize, items: &[Node]) -> Result<(), Memory>
+    requires { 2 + indent ≤ 128 }
+    ensures { OnOk result (out.new.items ≡ out.old.items ++ list_lines indent (items_view items.now)) }
+{
+    if items.is_empty() {
+        out.extend_from_slice(b" []\n")?;
+        return Ok(());
+    }
+    out.push(b'\n')?;
+    push_items(out, 2 + indent, items)
 }
 
 // An empty line, where one stands before a member.
@@ -67,25 +81,31 @@ fn push_value(
             out.push(b'\n')?;
             Ok(())
         }
-        Node::List(items) => {
-            if items.is_empty() {
-                out.extend_from_slice(b" []\n")?;
-                return Ok(());
-            }
-            out.push(b'\n')?;
-            push_items(out, indent + 2, items.as_slice())
-        }
-        Node::Map(members) => {
-            if flow || members.is_empty() {
-                out.push(b' ')?;
-                push_flow(out, node)?;
-                out.push(b'\n')?;
-                return Ok(());
-            }
-            out.push(b'\n')?;
-            push_members(out, level, indent + 2, members.as_slice())
-        }
+        Node::List(items) => push_list(out, indent, items.as_slice()),
+        Node::Map(members) => push_map(out, level, flow, indent, members.as_slice()),
     }
+}
+
+// The same of a map, in braces on the line where that is asked for.
+#[cycle(lines)]
+fn push_map(
+    out: &mut Vec<u8>,
+    level: Level,
+    flow: bool,
+    indent: usize,
+    members: &[(Text, Node)],
+) -> Result<(), Memory>
+    requires { 2 + indent + 2 * members_depth (members_view members.now) ≤ 128 }
+    ensures { OnOk result (out.new.items ≡ out.old.items ++ value_lines (level_of level) flow indent (map (members_view members.now))) }
+{
+    if flow || members.is_empty() {
+        out.push(b' ')?;
+        push_flow_map(out, members)?;
+        out.push(b'\n')?;
+        return Ok(());
+    }
+    out.push(b'\n')?;
+    push_members(out, level, 2 + indent, members)
 }
 
 // The lines of the members of a block map.

@@ -1,7 +1,8 @@
 // Data as a flow value, on one line.
 ghost use Rattle.std.specs.Prelude.{true, ◌≡◌, ◌∷◌, ◌++◌, OnOk};
 ghost use Rattle.pn_yaml.specs.Bytes.{space};
-ghost use Rattle.pn_yaml.specs.Printing.{flow_text, items_text, members_text, key_text};
+ghost use Rattle.pn_yaml.specs.Data.{list, map};
+ghost use Rattle.pn_yaml.specs.Printing.{flow_text, key_text};
 ghost use Rattle.pn_yaml.specs.View.{view, items_view, members_view};
 
 use crate::node::Node;
@@ -23,48 +24,41 @@ pub(crate) fn push_flow(out: &mut Vec<u8>, node: &Node) -> Result<(), Memory>
     ensures { OnOk result (out.new.items ≡ out.old.items ++ flow_text (view node.now)) }
 {
     match node {
-        Node::Scalar(scalar) => {
-            push_word(out, true, scalar.text.as_str().as_bytes(), scalar.plain)?;
-            Ok(())
-        }
-        Node::List(items) => {
-            out.push(b'[')?;
-            push_flow_items(out, items.as_slice())?;
-            out.push(b']')?;
-            Ok(())
-        }
-        Node::Map(members) => {
-            out.push(b'{')?;
-            push_flow_members(out, members.as_slice())?;
-            out.push(b'}')?;
-            Ok(())
-        }
+        Node::Scalar(scalar) => push_word(out, true, scalar.text.as_str().as_bytes(), scalar.plain),
+        Node::List(items) => push_flow_list(out, items.as_slice()),
+        Node::Map(members) => push_flow_map(out, members.as_slice()),
     }
 }
 
+/// A list in brackets.
 #[cycle(flow)]
-fn push_flow_items(out: &mut Vec<u8>, items: &[Node]) -> Result<(), Memory>
-    ensures { OnOk result (out.new.items ≡ out.old.items ++ items_text (items_view items.now)) }
+pub(crate) fn push_flow_list(out: &mut Vec<u8>, items: &[Node]) -> Result<(), Memory>
+    ensures { OnOk result (out.new.items ≡ out.old.items ++ flow_text (list (items_view items.now))) }
 {
+    out.push(b'[')?;
     for (i, item) in items.iter().enumerate() {
         if i > 0 {
             out.extend_from_slice(b", ")?;
         }
         push_flow(out, item)?;
     }
+    out.push(b']')?;
     Ok(())
 }
 
+/// A map in braces.
 #[cycle(flow)]
-fn push_flow_members(out: &mut Vec<u8>, members: &[(Text, Node)]) -> Result<(), Memory>
-    ensures { OnOk result (out.new.items ≡ out.old.items ++ members_text (members_view members.now)) }
+pub(crate) fn push_flow_map(out: &mut Vec<u8>, members: &[(Text, Node)]) -> Result<(), Memory>
+    ensures { OnOk result (out.new.items ≡ out.old.items ++ flow_text (map (members_view members.now))) }
 {
+    out.push(b'{')?;
     for (i, (key, node)) in members.iter().enumerate() {
         if i > 0 {
             out.extend_from_slice(b", ")?;
         }
         push_flow_member(out, key, node)?;
     }
+    out.push(b'}')?;
     Ok(())
 }
 
