@@ -12,7 +12,8 @@ use Rattle.pn_yaml.specs.Printing.{flow_items_marked, flow_marked, flow_members_
 use Rattle.pn_yaml.specs.Scalars.{Word, is_colon, word_at}
 use Rattle.pn_yaml.specs.Flow.{Reader, behind_value, flow_at, flow_items, flow_member, flow_members, flow_value, is_cut, list_in, map_in, with_item, with_member}
 use Rattle.pn_yaml.proofs.Outcomes.{bind_ok}
-use Rattle.pn_yaml.proofs.WordLaw.{Begins, may_end, word_law}
+use Rattle.pn_yaml.proofs.PlainLaw.{may_end}
+use Rattle.pn_yaml.proofs.WordLaw.{Begins, word_law}
 use Rattle.pn_yaml.proofs.PrintedBytes.{differs, is_opening, word-opens}
 use Rattle.pn_yaml.proofs.PrintedLines.{begins-append}
 

@@ -4,7 +4,7 @@ use Rattle.pn_yaml.specs.declared.scalar.Place.TheVariants as place
 use Rattle.pn_yaml.specs.Data.{Data, depth, are_apart}
 use Rattle.pn_yaml.specs.Flow.{flow_at}
 use Rattle.pn_yaml.specs.Printing.{flow_text, flow_marked}
-use Rattle.pn_yaml.proofs.WordLaw.{may_end}
+use Rattle.pn_yaml.proofs.PlainLaw.{may_end}
 use Rattle.pn_yaml.proofs.FlowBack.{flow_back}
 
 pub flow_law : (d : Data) (levels line : ℕ) (tail : List ℕ) → depth d ≤ levels → are_apart d ≡ true → may_end place.Flow tail ≡ true

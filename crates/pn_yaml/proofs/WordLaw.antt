@@ -8,16 +8,7 @@ use Rattle.pn_yaml.specs.Scalars.{Word, ends_plain, word_at}
 use Rattle.pn_yaml.specs.Blocks.{key_at}
 use Rattle.pn_yaml.specs.Words.{is_one_of, is_plain, word_text}
 use Rattle.pn_yaml.specs.Printing.{key_text}
-
--- whether a place is in a flow
-abbrev pub in_flow : Place → Bool
-in_flow place.Value = false
-in_flow place.Key = false
-in_flow place.Flow = true
-
--- what may stand behind a printed scalar: nothing, or what ends a plain one
-abbrev pub may_end : Place → List ℕ → Bool
-may_end p tail = is_empty tail || ends_plain p tail
+use Rattle.pn_yaml.proofs.PlainLaw.{in_flow, may_end}
 
 -- a byte that a printed scalar may begin with
 abbrev pub opens_word : ℕ → Bool

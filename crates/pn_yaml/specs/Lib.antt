@@ -10,3 +10,5 @@ pub mod Words
 pub mod Printing
 pub mod Laws
 pub mod Samples
+pub mod PlainRun
+pub mod Levels
