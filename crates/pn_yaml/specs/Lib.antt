@@ -11,3 +11,5 @@ pub mod Printing
 pub mod Laws
 pub mod Samples
 pub mod PrintedSamples
+pub mod PlainRun
+pub mod Levels

@@ -2,8 +2,15 @@
 #![tactic(auto)]
 
 mod fault;
+mod laws;
+mod level;
 mod node;
+mod print_block;
+mod print_flow;
 mod scalar;
+mod word;
 
 pub use fault::{Why, YamlFault};
+pub use laws::{print_law, read_law};
 pub use node::{Node, Scalar};
+pub use print_block::print;

@@ -1,0 +1,16 @@
+pub mod PlainRuns
+pub mod NodeViews
+pub mod ByteTests
+pub mod QuotedLaw
+pub mod PlainLaw
+pub mod WordLaw
+pub mod FlowLaw
+pub mod Outcomes
+pub mod FlowApart
+pub mod BlockApart
+pub mod PrintedBytes
+pub mod PrintedLines
+pub mod PrintedRows
+pub mod FlowBack
+pub mod BlockLaw
+pub mod ValueLaw

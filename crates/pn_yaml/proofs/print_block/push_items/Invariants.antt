@@ -1,0 +1,8 @@
+use Rattle.std.proofs.Common.{◌≡◌, ◌++◌, drop}
+use Rattle.pn_yaml.specs.Printing.{items_lines}
+use Rattle.pn_yaml.specs.View.{items_view}
+use Rattle.pn_yaml.proofs.print_block.push_items.Given as goal
+
+abbrev pub invariant-loop-item : goal.invariant-loop-item
+invariant-loop-item l =
+    l.out.items ++ items_lines l.indent (items_view (drop l.item-index l.items)) ≡ l.initial.out.items ++ items_lines l.indent (items_view l.items)

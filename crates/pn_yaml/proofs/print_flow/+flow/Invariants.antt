@@ -1,0 +1,13 @@
+use Rattle.std.proofs.Common.{◌≡◌, ◌++◌, drop}
+use Rattle.pn_yaml.specs.Printing.{items_text, members_text}
+use Rattle.pn_yaml.specs.View.{items_view, members_view}
+use Rattle.pn_yaml.proofs.NodeViews.{items_from, members_from}
+use Rattle.pn_yaml.proofs.print_flow.+flow.Given as goal
+
+abbrev pub invariant-push_flow_list-loop-i : goal.invariant-push_flow_list-loop-i
+invariant-push_flow_list-loop-i l =
+    l.out.items ++ items_from l.i (items_view (drop l.i l.items)) ≡ l.initial.out.items ++ items_text (items_view l.items)
+
+abbrev pub invariant-push_flow_map-loop-i : goal.invariant-push_flow_map-loop-i
+invariant-push_flow_map-loop-i l =
+    l.out.items ++ members_from l.i (members_view (drop l.i l.members)) ≡ l.initial.out.items ++ members_text (members_view l.members)

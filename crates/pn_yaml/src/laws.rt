@@ -1,0 +1,12 @@
+// Laws of the YAML subset, of the definitions by which texts are read and data is printed.
+ghost use Rattle.pn_yaml.specs.Laws.{PrintLaw, ReadLaw};
+
+/// The text of data says the same data, each scalar plain where it was printed plain.
+pub fn print_law()
+    ensures { PrintLaw }
+{}
+
+/// What is read has no key twice in a map, and is nested at most 64 deep.
+pub fn read_law()
+    ensures { ReadLaw }
+{}
