@@ -14,3 +14,4 @@ pub mod PrintedRows
 pub mod FlowBack
 pub mod BlockLaw
 pub mod ValueLaw
+pub mod PrintedUtf8

@@ -1,5 +1,6 @@
 // Data as a flow value, on one line.
 ghost use Rattle.std.specs.Prelude.{true, ◌≡◌, ◌∷◌, ◌++◌, OnOk};
+ghost use Rattle.std.specs.Str.{is_utf8};
 ghost use Rattle.pn_yaml.specs.Bytes.{space};
 ghost use Rattle.pn_yaml.specs.Data.{list, map};
 ghost use Rattle.pn_yaml.specs.Printing.{flow_text, key_text};
@@ -11,9 +12,10 @@ use pn_text::{Memory, Text};
 
 /// A key and its colon, in a flow or outside.
 pub(crate) fn push_key(out: &mut Vec<u8>, flow: bool, key: &Text) -> Result<(), Memory>
-    ensures { OnOk result (out.new.items ≡ out.old.items ++ key_text flow key.now) }
+    ensures text { OnOk result (out.new.items ≡ out.old.items ++ key_text flow key.now) }
+    ensures utf8 { OnOk result (is_utf8 out.new.items ≡ is_utf8 out.old.items) }
 {
-    push_word(out, flow, key.as_str().as_bytes(), false)?;
+    push_word(out, flow, key.as_str(), false)?;
     out.push(b':')?;
     Ok(())
 }
@@ -21,10 +23,11 @@ pub(crate) fn push_key(out: &mut Vec<u8>, flow: bool, key: &Text) -> Result<(), 
 /// A value on one line.
 #[cycle(flow)]
 pub(crate) fn push_flow(out: &mut Vec<u8>, node: &Node) -> Result<(), Memory>
-    ensures { OnOk result (out.new.items ≡ out.old.items ++ flow_text (view node.now)) }
+    ensures text { OnOk result (out.new.items ≡ out.old.items ++ flow_text (view node.now)) }
+    ensures utf8 { OnOk result (is_utf8 out.new.items ≡ is_utf8 out.old.items) }
 {
     match node {
-        Node::Scalar(scalar) => push_word(out, true, scalar.text.as_str().as_bytes(), scalar.plain),
+        Node::Scalar(scalar) => push_word(out, true, scalar.text.as_str(), scalar.plain),
         Node::List(items) => push_flow_list(out, items.as_slice()),
         Node::Map(members) => push_flow_map(out, members.as_slice()),
     }
@@ -33,7 +36,8 @@ pub(crate) fn push_flow(out: &mut Vec<u8>, node: &Node) -> Result<(), Memory>
 /// A list in brackets.
 #[cycle(flow)]
 pub(crate) fn push_flow_list(out: &mut Vec<u8>, items: &[Node]) -> Result<(), Memory>
-    ensures { OnOk result (out.new.items ≡ out.old.items ++ flow_text (list (items_view items.now))) }
+    ensures text { OnOk result (out.new.items ≡ out.old.items ++ flow_text (list (items_view items.now))) }
+    ensures utf8 { OnOk result (is_utf8 out.new.items ≡ is_utf8 out.old.items) }
 {
     out.push(b'[')?;
     for (i, item) in items.iter().enumerate() {
@@ -49,7 +53,8 @@ pub(crate) fn push_flow_list(out: &mut Vec<u8>, items: &[Node]) -> Result<(), Me
 /// A map in braces.
 #[cycle(flow)]
 pub(crate) fn push_flow_map(out: &mut Vec<u8>, members: &[(Text, Node)]) -> Result<(), Memory>
-    ensures { OnOk result (out.new.items ≡ out.old.items ++ flow_text (map (members_view members.now))) }
+    ensures text { OnOk result (out.new.items ≡ out.old.items ++ flow_text (map (members_view members.now))) }
+    ensures utf8 { OnOk result (is_utf8 out.new.items ≡ is_utf8 out.old.items) }
 {
     out.push(b'{')?;
     for (i, (key, node)) in members.iter().enumerate() {
@@ -64,7 +69,8 @@ pub(crate) fn push_flow_map(out: &mut Vec<u8>, members: &[(Text, Node)]) -> Resu
 
 #[cycle(flow)]
 fn push_flow_member(out: &mut Vec<u8>, key: &Text, node: &Node) -> Result<(), Memory>
-    ensures { OnOk result (out.new.items ≡ out.old.items ++ (key_text true key.now ++ space ∷ flow_text (view node.now))) }
+    ensures text { OnOk result (out.new.items ≡ out.old.items ++ (key_text true key.now ++ space ∷ flow_text (view node.now))) }
+    ensures utf8 { OnOk result (is_utf8 out.new.items ≡ is_utf8 out.old.items) }
 {
     push_key(out, true, key)?;
     out.push(b' ')?;
