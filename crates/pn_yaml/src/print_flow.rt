@@ -11,6 +11,7 @@ use crate::word::push_word;
 use pn_text::{Memory, Text};
 
 /// A key and its colon, in a flow or outside.
+#[tactic(auto, using(crate::proofs::PrintedUtf8::utf8_ascii))]
 pub(crate) fn push_key(out: &mut Vec<u8>, flow: bool, key: &Text) -> Result<(), Memory>
     ensures text { OnOk result (out.new.items ≡ out.old.items ++ key_text flow key.now) }
     ensures utf8 { OnOk result (is_utf8 out.new.items ≡ is_utf8 out.old.items) }
@@ -34,6 +35,7 @@ pub(crate) fn push_flow(out: &mut Vec<u8>, node: &Node) -> Result<(), Memory>
 }
 
 /// A list in brackets.
+#[tactic(auto, using(crate::proofs::PrintedUtf8::utf8_ascii))]
 #[cycle(flow)]
 pub(crate) fn push_flow_list(out: &mut Vec<u8>, items: &[Node]) -> Result<(), Memory>
     ensures text { OnOk result (out.new.items ≡ out.old.items ++ flow_text (list (items_view items.now))) }
@@ -51,6 +53,7 @@ pub(crate) fn push_flow_list(out: &mut Vec<u8>, items: &[Node]) -> Result<(), Me
 }
 
 /// A map in braces.
+#[tactic(auto, using(crate::proofs::PrintedUtf8::utf8_ascii))]
 #[cycle(flow)]
 pub(crate) fn push_flow_map(out: &mut Vec<u8>, members: &[(Text, Node)]) -> Result<(), Memory>
     ensures text { OnOk result (out.new.items ≡ out.old.items ++ flow_text (map (members_view members.now))) }
@@ -67,6 +70,7 @@ pub(crate) fn push_flow_map(out: &mut Vec<u8>, members: &[(Text, Node)]) -> Resu
     Ok(())
 }
 
+#[tactic(auto, using(crate::proofs::PrintedUtf8::utf8_ascii))]
 #[cycle(flow)]
 fn push_flow_member(out: &mut Vec<u8>, key: &Text, node: &Node) -> Result<(), Memory>
     ensures text { OnOk result (out.new.items ≡ out.old.items ++ (key_text true key.now ++ space ∷ flow_text (view node.now))) }
