@@ -28,6 +28,7 @@ fn push_item(out: &mut Vec<u8>, node: &Node) -> Result<(), Memory>
 }
 
 // The lines of a block list.
+#[tactic(auto, using(crate::proofs::PrintedUtf8::utf8_ascii, crate::proofs::PrintedUtf8::utf8_spaces))]
 fn push_items(out: &mut Vec<u8>, indent: usize, items: &[Node]) -> Result<(), Memory>
     requires { indent ≤ 128 }
     ensures text { OnOk result (out.new.items ≡ out.old.items ++ items_lines indent (items_view items.now)) }
@@ -43,6 +44,7 @@ fn push_items(out: &mut Vec<u8>, indent: usize, items: &[Node]) -> Result<(), Me
 }
 
 // What stands behind a key's colon, with the lines below, of a list.
+#[tactic(auto, using(crate::proofs::PrintedUtf8::utf8_ascii))]
 fn push_list(out: &mut Vec<u8>, indent: usize, items: &[Node]) -> Result<(), Memory>
     requires { 2 + indent ≤ 128 }
     ensures text { OnOk result (out.new.items ≡ out.old.items ++ list_lines indent (items_view items.now)) }
@@ -57,6 +59,7 @@ fn push_list(out: &mut Vec<u8>, indent: usize, items: &[Node]) -> Result<(), Mem
 }
 
 // An empty line, where one stands before a member.
+#[tactic(auto, using(crate::proofs::PrintedUtf8::utf8_ascii))]
 fn push_gap(out: &mut Vec<u8>, level: Level) -> Result<(), Memory>
     ensures text { OnOk result (out.new.items ≡ out.old.items ++ gap (level_of level)) }
     ensures utf8 { OnOk result (is_utf8 out.new.items ≡ is_utf8 out.old.items) }
@@ -68,6 +71,7 @@ fn push_gap(out: &mut Vec<u8>, level: Level) -> Result<(), Memory>
 }
 
 // What stands behind a key's colon, with the lines below.
+#[tactic(auto, using(crate::proofs::PrintedUtf8::utf8_ascii))]
 #[cycle(lines)]
 fn push_value(
     out: &mut Vec<u8>,
@@ -93,6 +97,7 @@ fn push_value(
 }
 
 // The same of a map, in braces on the line where that is asked for.
+#[tactic(auto, using(crate::proofs::PrintedUtf8::utf8_ascii))]
 #[cycle(lines)]
 fn push_map(
     out: &mut Vec<u8>,
@@ -116,6 +121,7 @@ fn push_map(
 }
 
 // The lines of the members of a block map.
+#[tactic(auto, using(crate::proofs::PrintedUtf8::utf8_ascii, crate::proofs::PrintedUtf8::utf8_spaces))]
 #[cycle(lines)]
 fn push_members(
     out: &mut Vec<u8>,

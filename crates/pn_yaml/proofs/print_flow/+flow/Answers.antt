@@ -29,4 +29,4 @@ push_flow_map-loop-i-preserved t c =
     }
 
 pub push_flow_list-loop-i-preserved : goal.push_flow_list-loop-i-preserved
-push_flow_list-loop-i-preserved t c = record { text = first_of (search rules, grind (arith, common_steps)); utf8 = grind (arith, utf8_ascii) }
+push_flow_list-loop-i-preserved t c = record { text = grind (arith, common_steps); utf8 = grind (arith, utf8_ascii) }
