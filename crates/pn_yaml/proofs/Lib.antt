@@ -15,3 +15,4 @@ pub mod FlowBack
 pub mod BlockLaw
 pub mod ValueLaw
 pub mod PrintedUtf8
+pub mod ReadBack

@@ -143,3 +143,6 @@ spaces-ascii (suc n) = spaces-ascii n
 
 pub utf8_spaces : (a : List ℕ) (n : ℕ) → is_utf8 (a ++ spaces n) ≡ is_utf8 a
 utf8_spaces a n = utf8_ascii a (spaces n) (spaces-ascii n)
+
+pub utf8_none : is_utf8 [] ≡ true
+utf8_none = is_utf8-from_IsUtf8 [] IsUtf8-nil

@@ -1,11 +1,12 @@
 // Data as a text of blocks.
 ghost use Rattle.std.specs.Prelude.{false, ◌≡◌, ◌+◌, ◌*◌, ◌≤◌, ◌∷◌, [], ◌++◌, IfOk, OnOk};
 ghost use Rattle.std.specs.Str.{is_utf8};
+ghost use Rattle.pn_yaml.specs.Blocks.{says};
 ghost use Rattle.pn_yaml.specs.Bytes.{space};
 ghost use Rattle.pn_yaml.specs.Data.{depth, map, members_depth};
 ghost use Rattle.pn_yaml.specs.Laws.{IsPrintable};
 ghost use Rattle.pn_yaml.specs.Levels.{level_of, list_lines};
-ghost use Rattle.pn_yaml.specs.Printing.{below, gap, is_flow_key, item_text, items_lines, key_text, members_lines, printed, value_lines};
+ghost use Rattle.pn_yaml.specs.Printing.{below, gap, is_flow_key, item_text, items_lines, key_text, marked, members_lines, printed, value_lines};
 ghost use Rattle.pn_yaml.specs.View.{view, items_view, members_view};
 
 use crate::level::{Level, below, is_flow_key, spaces};
@@ -164,6 +165,7 @@ fn push_member(
 pub fn print(alloc: Global, node: &Node) -> Result<Vec<u8>, Memory>
     requires { IsPrintable (view node.now) }
     ensures text { IfOk result (λ v. v.items ≡ printed (view node.now)) }
+    ensures reads { IfOk result (λ v. says v.items ≡ Ok (marked (view node.now))) }
 {
     let mut out = Vec::new(alloc);
     if let Node::Map(members) = node {
