@@ -29,7 +29,7 @@ push_value-returns-in-Map-clause-text t c =
 
 pub push_members-loop-key-preserved : goal.push_members-loop-key-preserved
 push_members-loop-key-preserved t c = record {
-  flat = first_of (search rules, grind (arith, common_steps));
-  same = first_of (search rules, grind (arith, common_steps));
+  flat = grind (arith, common_steps);
+  same = grind (arith, common_steps);
   utf8 = grind (arith, utf8_spaces);
 }

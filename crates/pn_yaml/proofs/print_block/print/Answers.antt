@@ -10,6 +10,6 @@ use Rattle.pn_yaml.proofs.print_block.print.Goals as goal
 
 pub returns-clause-reads : goal.returns-clause-reads
 returns-clause-reads c =
-    let text : c.match-node.out.items ≡ printed (view c.args.node.now) = first_of (search (rules, the_lemmas), search (rules, the_lemmas, tests, common_steps)) in
+    let text : c.match-node.out.items ≡ printed (view c.args.node.now) = search (rules, the_lemmas, tests, common_steps) in
     let utf8 : is_utf8 c.match-node.out.items ≡ true = grind (arith, utf8_none) in
     read_back (view c.args.node.now) c.match-node.out.items c.requires text utf8
