@@ -14,3 +14,5 @@ pub mod PrintedRows
 pub mod FlowBack
 pub mod BlockLaw
 pub mod ValueLaw
+pub mod PrintedUtf8
+pub mod ReadBack

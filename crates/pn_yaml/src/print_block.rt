@@ -1,10 +1,12 @@
 // Data as a text of blocks.
 ghost use Rattle.std.specs.Prelude.{false, ◌≡◌, ◌+◌, ◌*◌, ◌≤◌, ◌∷◌, [], ◌++◌, IfOk, OnOk};
+ghost use Rattle.std.specs.Str.{is_utf8};
+ghost use Rattle.pn_yaml.specs.Blocks.{says};
 ghost use Rattle.pn_yaml.specs.Bytes.{space};
 ghost use Rattle.pn_yaml.specs.Data.{depth, map, members_depth};
 ghost use Rattle.pn_yaml.specs.Laws.{IsPrintable};
 ghost use Rattle.pn_yaml.specs.Levels.{level_of, list_lines};
-ghost use Rattle.pn_yaml.specs.Printing.{below, gap, is_flow_key, item_text, items_lines, key_text, members_lines, printed, value_lines};
+ghost use Rattle.pn_yaml.specs.Printing.{below, gap, is_flow_key, item_text, items_lines, key_text, marked, members_lines, printed, value_lines};
 ghost use Rattle.pn_yaml.specs.View.{view, items_view, members_view};
 
 use crate::level::{Level, below, is_flow_key, spaces};
@@ -16,19 +18,22 @@ use std::alloc::Global;
 
 // An item of a block list behind its `-`.
 fn push_item(out: &mut Vec<u8>, node: &Node) -> Result<(), Memory>
-    ensures { OnOk result (out.new.items ≡ out.old.items ++ item_text (view node.now)) }
+    ensures text { OnOk result (out.new.items ≡ out.old.items ++ item_text (view node.now)) }
+    ensures utf8 { OnOk result (is_utf8 out.new.items ≡ is_utf8 out.old.items) }
 {
     match node {
-        Node::Scalar(scalar) => push_word(out, false, scalar.text.as_str().as_bytes(), scalar.plain),
+        Node::Scalar(scalar) => push_word(out, false, scalar.text.as_str(), scalar.plain),
         Node::List(items) => push_flow_list(out, items.as_slice()),
         Node::Map(members) => push_flow_map(out, members.as_slice()),
     }
 }
 
 // The lines of a block list.
+#[tactic(auto, using(crate::proofs::PrintedUtf8::utf8_ascii, crate::proofs::PrintedUtf8::utf8_spaces))]
 fn push_items(out: &mut Vec<u8>, indent: usize, items: &[Node]) -> Result<(), Memory>
     requires { indent ≤ 128 }
-    ensures { OnOk result (out.new.items ≡ out.old.items ++ items_lines indent (items_view items.now)) }
+    ensures text { OnOk result (out.new.items ≡ out.old.items ++ items_lines indent (items_view items.now)) }
+    ensures utf8 { OnOk result (is_utf8 out.new.items ≡ is_utf8 out.old.items) }
 {
     for item in items {
         out.extend_from_slice(spaces(indent))?;
@@ -40,9 +45,11 @@ fn push_items(out: &mut Vec<u8>, indent: usize, items: &[Node]) -> Result<(), Me
 }
 
 // What stands behind a key's colon, with the lines below, of a list.
+#[tactic(auto, using(crate::proofs::PrintedUtf8::utf8_ascii))]
 fn push_list(out: &mut Vec<u8>, indent: usize, items: &[Node]) -> Result<(), Memory>
     requires { 2 + indent ≤ 128 }
-    ensures { OnOk result (out.new.items ≡ out.old.items ++ list_lines indent (items_view items.now)) }
+    ensures text { OnOk result (out.new.items ≡ out.old.items ++ list_lines indent (items_view items.now)) }
+    ensures utf8 { OnOk result (is_utf8 out.new.items ≡ is_utf8 out.old.items) }
 {
     if items.is_empty() {
         out.extend_from_slice(b" []\n")?;
@@ -53,8 +60,10 @@ fn push_list(out: &mut Vec<u8>, indent: usize, items: &[Node]) -> Result<(), Mem
 }
 
 // An empty line, where one stands before a member.
+#[tactic(auto, using(crate::proofs::PrintedUtf8::utf8_ascii))]
 fn push_gap(out: &mut Vec<u8>, level: Level) -> Result<(), Memory>
-    ensures { OnOk result (out.new.items ≡ out.old.items ++ gap (level_of level)) }
+    ensures text { OnOk result (out.new.items ≡ out.old.items ++ gap (level_of level)) }
+    ensures utf8 { OnOk result (is_utf8 out.new.items ≡ is_utf8 out.old.items) }
 {
     if level != Level::Dense {
         out.push(b'\n')?;
@@ -63,6 +72,7 @@ fn push_gap(out: &mut Vec<u8>, level: Level) -> Result<(), Memory>
 }
 
 // What stands behind a key's colon, with the lines below.
+#[tactic(auto, using(crate::proofs::PrintedUtf8::utf8_ascii))]
 #[cycle(lines)]
 fn push_value(
     out: &mut Vec<u8>,
@@ -72,12 +82,13 @@ fn push_value(
     node: &Node,
 ) -> Result<(), Memory>
     requires { indent + 2 * depth (view node.now) ≤ 128 }
-    ensures { OnOk result (out.new.items ≡ out.old.items ++ value_lines (level_of level) flow indent (view node.now)) }
+    ensures text { OnOk result (out.new.items ≡ out.old.items ++ value_lines (level_of level) flow indent (view node.now)) }
+    ensures utf8 { OnOk result (is_utf8 out.new.items ≡ is_utf8 out.old.items) }
 {
     match node {
         Node::Scalar(scalar) => {
             out.push(b' ')?;
-            push_word(out, false, scalar.text.as_str().as_bytes(), scalar.plain)?;
+            push_word(out, false, scalar.text.as_str(), scalar.plain)?;
             out.push(b'\n')?;
             Ok(())
         }
@@ -87,6 +98,7 @@ fn push_value(
 }
 
 // The same of a map, in braces on the line where that is asked for.
+#[tactic(auto, using(crate::proofs::PrintedUtf8::utf8_ascii))]
 #[cycle(lines)]
 fn push_map(
     out: &mut Vec<u8>,
@@ -96,7 +108,8 @@ fn push_map(
     members: &[(Text, Node)],
 ) -> Result<(), Memory>
     requires { 2 + indent + 2 * members_depth (members_view members.now) ≤ 128 }
-    ensures { OnOk result (out.new.items ≡ out.old.items ++ value_lines (level_of level) flow indent (map (members_view members.now))) }
+    ensures text { OnOk result (out.new.items ≡ out.old.items ++ value_lines (level_of level) flow indent (map (members_view members.now))) }
+    ensures utf8 { OnOk result (is_utf8 out.new.items ≡ is_utf8 out.old.items) }
 {
     if flow || members.is_empty() {
         out.push(b' ')?;
@@ -109,6 +122,7 @@ fn push_map(
 }
 
 // The lines of the members of a block map.
+#[tactic(auto, using(crate::proofs::PrintedUtf8::utf8_ascii, crate::proofs::PrintedUtf8::utf8_spaces))]
 #[cycle(lines)]
 fn push_members(
     out: &mut Vec<u8>,
@@ -117,7 +131,8 @@ fn push_members(
     members: &[(Text, Node)],
 ) -> Result<(), Memory>
     requires { indent + 2 * members_depth (members_view members.now) ≤ 128 }
-    ensures { OnOk result (out.new.items ≡ out.old.items ++ members_lines (level_of level) indent (members_view members.now)) }
+    ensures text { OnOk result (out.new.items ≡ out.old.items ++ members_lines (level_of level) indent (members_view members.now)) }
+    ensures utf8 { OnOk result (is_utf8 out.new.items ≡ is_utf8 out.old.items) }
 {
     for (key, node) in members {
         push_gap(out, level)?;
@@ -137,8 +152,9 @@ fn push_member(
     node: &Node,
 ) -> Result<(), Memory>
     requires { indent + 2 * depth (view node.now) ≤ 128 }
-    ensures { OnOk result (out.new.items ≡ out.old.items
+    ensures text { OnOk result (out.new.items ≡ out.old.items
         ++ (key_text false key.now ++ value_lines (below (level_of level) key.now) (is_flow_key key.now) indent (view node.now))) }
+    ensures utf8 { OnOk result (is_utf8 out.new.items ≡ is_utf8 out.old.items) }
 {
     push_key(out, false, key)?;
     let name = key.as_str().as_bytes();
@@ -149,6 +165,7 @@ fn push_member(
 pub fn print(alloc: Global, node: &Node) -> Result<Vec<u8>, Memory>
     requires { IsPrintable (view node.now) }
     ensures text { IfOk result (λ v. v.items ≡ printed (view node.now)) }
+    ensures reads { IfOk result (λ v. says v.items ≡ Ok (marked (view node.now))) }
 {
     let mut out = Vec::new(alloc);
     if let Node::Map(members) = node {

@@ -1,6 +1,7 @@
 // How scalars are printed: plain where that is read back as the same text, else in quotes.
 ghost use Rattle.std.specs.Prelude.{◌≡◌, ◌==◌, ◌<◌, [], ◌∷◌, ◌++◌, bytes_eq, OnOk};
 ghost use Rattle.std.specs.List.{count_by, list_any};
+ghost use Rattle.std.specs.Str.{is_utf8};
 ghost use Rattle.pn_yaml.specs.PlainRun.{begins_number, breaks_plain, stays_plain};
 ghost use Rattle.pn_yaml.specs.Words.{begins_wrong, is_shown, may_be_plain, lower_case, is_keyword, is_numeric, is_ambiguous, is_plain, is_control, doubled, digit_text, escaped_byte, escaped, word_text};
 
@@ -187,17 +188,19 @@ fn push_single_quoted(out: &mut Vec<u8>, text: &[u8]) -> Result<(), Memory>
 pub(crate) fn push_word(
     out: &mut Vec<u8>,
     flow: bool,
-    text: &[u8],
+    text: &str,
     plain: bool,
 ) -> Result<(), Memory>
-    ensures { OnOk result (out.new.items ≡ out.old.items ++ word_text flow text.now plain) }
+    ensures text { OnOk result (out.new.items ≡ out.old.items ++ word_text flow text.now plain) }
+    ensures utf8 { OnOk result (is_utf8 out.new.items ≡ is_utf8 out.old.items) }
 {
-    if is_plain(flow, text, plain) {
-        out.extend_from_slice(text)?;
+    let bytes = text.as_bytes();
+    if is_plain(flow, bytes, plain) {
+        out.extend_from_slice(bytes)?;
         Ok(())
-    } else if holds_control(text) {
-        push_double_quoted(out, text)
+    } else if holds_control(bytes) {
+        push_double_quoted(out, bytes)
     } else {
-        push_single_quoted(out, text)
+        push_single_quoted(out, bytes)
     }
 }

@@ -1,4 +1,5 @@
 use Rattle.std.proofs.Common.{◌≡◌, ◌≤◌, ◌+◌, ◌*◌, ◌++◌, drop}
+use Rattle.std.specs.Str.{is_utf8}
 use Rattle.pn_yaml.specs.Data.{members_depth}
 use Rattle.pn_yaml.specs.Levels.{level_of}
 use Rattle.pn_yaml.specs.Printing.{members_lines}
@@ -9,5 +10,6 @@ abbrev pub invariant-push_members-loop-key : goal.invariant-push_members-loop-ke
 invariant-push_members-loop-key l = record {
   flat : l.indent + 2 * members_depth (members_view (drop l.key-index l.members)) ≤ 128;
   same : l.out.items ++ members_lines (level_of l.level) l.indent (members_view (drop l.key-index l.members))
-      ≡ l.initial.out.items ++ members_lines (level_of l.level) l.indent (members_view l.members)
+      ≡ l.initial.out.items ++ members_lines (level_of l.level) l.indent (members_view l.members);
+  utf8 : is_utf8 l.out.items ≡ is_utf8 l.initial.out.items
 }
