@@ -99,7 +99,7 @@ items_next : (value : Reader) (d e : Data) (es : Items) (line steps : ℕ) (text
 items_next value d e es line steps text behind tail reads later l =
     let y = flow_text d ++ behind in
     let next : Result (Data × List ℕ) YamlFault → Result (Items × List ℕ) YamlFault
-        = λ r. r >>= λ v. with_item v.0 (behind_value line 93 no_items (flow_items value line steps) (unindented v.1)) in
+    = λ r. r >>= λ v. with_item v.0 (behind_value line 93 no_items (flow_items value line steps) (unindented v.1)) in
     let body : List ℕ → Result (Items × List ℕ) YamlFault = λ u. if starts 93 u then Ok (no_items, tail_of u) else next (value u) in
     ap (λ z. if z then wrong line why.Flow else body (unindented text)) l.cut ∙ ap body l.front ∙ ap (λ z. if z then Ok (no_items, tail_of y) else next (value y)) l.open_list
     ∙ ap next reads ∙ ap (with_item e) later
@@ -112,8 +112,8 @@ member_read value k d e line seen behind reads new =
     let l : Leads (space ∷ y) y = leads_behind y y refl (opens_more (flow_text d) behind (flow_opens d)) in
     let last : Result (Data × List ℕ) YamlFault → Result ((List ℕ × Data) × List ℕ) YamlFault = λ r. r >>= λ v. Ok ((k, v.0), v.1) in
     let after : Result (Word × List ℕ) YamlFault → Result ((List ℕ × Data) × List ℕ) YamlFault
-        = λ r. r >>= λ w. if not (is_colon w.1) then wrong line why.Flow else if is_among w.0.text seen then wrong line why.Twice
-          else flow_value value line (tail_of w.1) >>= λ v. Ok ((w.0.text, v.0), v.1) in
+    = λ r. r >>= λ w. if not (is_colon w.1) then wrong line why.Flow else if is_among w.0.text seen then wrong line why.Twice
+    else flow_value value line (tail_of w.1) >>= λ v. Ok ((w.0.text, v.0), v.1) in
     ap (λ z. after (word_at place.Flow line z)) (append_assoc (word_text true k false) (58 ∷ []) (space ∷ y))
     ∙ ap after (word_law place.Flow line k false (58 ∷ space ∷ y) refl)
     ∙ ap (λ z. if z then wrong line why.Twice else last (flow_value value line (space ∷ y))) new
@@ -128,7 +128,7 @@ members_next : (value : Reader) (k : List ℕ) (d e : Data) (es : Members) (line
 members_next value k d e es line steps seen text behind tail reads new later l =
     let y = key_text true k ++ space ∷ (flow_text d ++ behind) in
     let next : Result ((List ℕ × Data) × List ℕ) YamlFault → Result (Members × List ℕ) YamlFault
-        = λ r. r >>= λ m. with_member m.0.0 m.0.1 (behind_value line 125 no_members (flow_members value line steps (m.0.0 ∷ seen)) (unindented m.1)) in
+    = λ r. r >>= λ m. with_member m.0.0 m.0.1 (behind_value line 125 no_members (flow_members value line steps (m.0.0 ∷ seen)) (unindented m.1)) in
     let body : List ℕ → Result (Members × List ℕ) YamlFault = λ u. if starts 125 u then Ok (no_members, tail_of u) else next (flow_member value line seen u) in
     ap (λ z. if z then wrong line why.Flow else body (unindented text)) l.cut ∙ ap body l.front
     ∙ ap (λ z. if z then Ok (no_members, tail_of y) else next (flow_member value line seen y)) l.open_map
@@ -169,7 +169,7 @@ scalar_law text plain levels line tail ends =
     let y = word_text true text plain ++ tail in
     let b = word_begins true text plain in
     let far : (c : ℕ) → is_one_of (codes "-?:,[]{}#&*!|>%@` ") c ≡ true → starts c y ≡ false
-        = λ c i. ap (λ z. starts c (z ++ tail)) b.whole ∙ apart (codes "-?:,[]{}#&*!|>%@` ") b.first c (not_false _ b.good) i in
+    = λ c i. ap (λ z. starts c (z ++ tail)) b.whole ∙ apart (codes "-?:,[]{}#&*!|>%@` ") b.first c (not_false _ b.good) i in
     let in_list = list_in (flow_items (flow_at levels line) line (length y) (tail_of y)) in
     let in_map = map_in (flow_members (flow_at levels line) line (length y) [] (tail_of y)) in
     let read : Result (Word × List ℕ) YamlFault → Result (Data × List ℕ) YamlFault = λ r. r >>= λ w. Ok (scalar w.0.text w.0.plain, w.1) in
@@ -218,10 +218,10 @@ mutual
       let text = (items_text (item d ds) ++ 93 ∷ []) ++ tail in
       let whole = items_whole (flow_text d) (later_items_text ds) tail in
       ap list_in (items_next (flow_at levels line) d (flow_marked d) (flow_items_marked ds) line (length text) text behind tail
-        (flow_law d levels line behind (first_flat (depth d) (items_depth ds) levels low) (and_left (are_apart d) (items_apart ds) new) (items_end ds tail))
-        (items_behind ds levels line (length text) tail (rest_flat (depth d) (items_depth ds) levels low) (and_right (are_apart d) (items_apart ds) new)
-          (longer text (flow_text d) behind (items_count ds) whole (items_few ds (93 ∷ tail))))
-        (leads text (flow_text d ++ behind) whole (opens_more (flow_text d) behind (flow_opens d))))
+      (flow_law d levels line behind (first_flat (depth d) (items_depth ds) levels low) (and_left (are_apart d) (items_apart ds) new) (items_end ds tail))
+      (items_behind ds levels line (length text) tail (rest_flat (depth d) (items_depth ds) levels low) (and_right (are_apart d) (items_apart ds) new)
+      (longer text (flow_text d) behind (items_count ds) whole (items_few ds (93 ∷ tail))))
+      (leads text (flow_text d ++ behind) whole (opens_more (flow_text d) behind (flow_opens d))))
   flow_law (map ms) zero line tail flat new ends = absurd (omega arith)
   flow_law (map no_members) (suc levels) line tail flat new ends = refl
   flow_law (map (member k d ms)) (suc levels) line tail flat new ends =
@@ -230,11 +230,11 @@ mutual
       let text = (members_text (member k d ms) ++ 125 ∷ []) ++ tail in
       let whole = members_whole (key_text true k) (flow_text d) (later_members_text ms) tail in
       ap map_in (members_next (flow_at levels line) k d (flow_marked d) (flow_members_marked ms) line (length text) [] text behind tail
-        (flow_law d levels line behind (first_flat (depth d) (members_depth ms) levels low) (and_left (are_apart d) (members_apart (k ∷ []) ms) new) (members_end ms tail))
-        refl
-        (members_behind ms levels line (length text) (k ∷ []) tail (rest_flat (depth d) (members_depth ms) levels low) (and_right (are_apart d) (members_apart (k ∷ []) ms) new)
-          (longer_member text (key_text true k) (flow_text d) behind (members_count ms) whole (members_few ms (125 ∷ tail))))
-        (leads text (key_text true k ++ space ∷ (flow_text d ++ behind)) whole (key_opens k (space ∷ (flow_text d ++ behind)))))
+      (flow_law d levels line behind (first_flat (depth d) (members_depth ms) levels low) (and_left (are_apart d) (members_apart (k ∷ []) ms) new) (members_end ms tail))
+      refl
+      (members_behind ms levels line (length text) (k ∷ []) tail (rest_flat (depth d) (members_depth ms) levels low) (and_right (are_apart d) (members_apart (k ∷ []) ms) new)
+      (longer_member text (key_text true k) (flow_text d) behind (members_count ms) whole (members_few ms (125 ∷ tail))))
+      (leads text (key_text true k ++ space ∷ (flow_text d ++ behind)) whole (key_opens k (space ∷ (flow_text d ++ behind)))))
 
   items_behind : (ds : Items) (levels line steps : ℕ) (tail : List ℕ) → items_depth ds ≤ levels → items_apart ds ≡ true → items_count ds ≤ steps
       → behind_value line 93 no_items (flow_items (flow_at levels line) line steps) (unindented (items_behind_text ds tail)) ≡ Ok (flow_items_marked ds, tail)
@@ -260,6 +260,6 @@ mutual
       (flow_law d levels line behind (first_flat (depth d) (members_depth ms) levels flat) (and_left (are_apart d) (members_apart (k ∷ seen) ms) others) (members_end ms tail))
       (not_false (is_among k seen) (and_left (not (is_among k seen)) (are_apart d && members_apart (k ∷ seen) ms) new))
       (members_behind ms levels line steps (k ∷ seen) tail (rest_flat (depth d) (members_depth ms) levels flat) (and_right (are_apart d) (members_apart (k ∷ seen) ms) others)
-        (one_less (members_count ms) steps few))
+      (one_less (members_count ms) steps few))
       (leads_behind text (key_text true k ++ space ∷ (flow_text d ++ behind)) (member_whole (key_text true k) (flow_text d) (later_members_text ms) (125 ∷ tail))
-        (key_opens k (space ∷ (flow_text d ++ behind))))
+      (key_opens k (space ∷ (flow_text d ++ behind))))

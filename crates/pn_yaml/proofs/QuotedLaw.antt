@@ -87,18 +87,18 @@ escaped_one line b x text tail again =
     elim (cases_Bool (b == 34)) [
       | inl e ↦ stands line b 34 x text tail e (slashed 34)
       | inr e ↦ elim (cases_Bool (b == 92)) [
-          | inl f ↦ stands line b 92 x text tail f (slashed 92)
-          | inr f ↦ elim (cases_Bool (b == 10)) [
-              | inl g ↦ stands line b 10 x text tail g (slashed 10)
-              | inr g ↦ elim (cases_Bool (b == 9)) [
-                  | inl h ↦ stands line b 9 x text tail h (slashed 9)
-                  | inr h ↦ elim (cases_Bool (b == 13)) [
-                      | inl i ↦ stands line b 13 x text tail i (slashed 13)
-                      | inr i ↦ other line b x text tail e f g h i again
-                    ]
-                ]
+        | inl f ↦ stands line b 92 x text tail f (slashed 92)
+        | inr f ↦ elim (cases_Bool (b == 10)) [
+          | inl g ↦ stands line b 10 x text tail g (slashed 10)
+          | inr g ↦ elim (cases_Bool (b == 9)) [
+            | inl h ↦ stands line b 9 x text tail h (slashed 9)
+            | inr h ↦ elim (cases_Bool (b == 13)) [
+              | inl i ↦ stands line b 13 x text tail i (slashed 13)
+              | inr i ↦ other line b x text tail e f g h i again
             ]
+          ]
         ]
+      ]
     ]
 
 pub escaped_read : (line : ℕ) (text tail : List ℕ) → quoted_at line double (escaped text ++ 34 ∷ tail) ≡ quoted text tail

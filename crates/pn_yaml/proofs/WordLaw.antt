@@ -36,9 +36,9 @@ form_of flow text plain =
     elim (cases_Bool (is_plain flow text plain)) [
       | inl e ↦ bare e (ap (λ z. if z then text else quoted (list_any is_control text)) e)
       | inr e ↦ elim (cases_Bool (list_any is_control text)) [
-          | inl c ↦ with_double e (ap (λ z. if z then text else quoted (list_any is_control text)) e ∙ ap quoted c)
-          | inr c ↦ with_single e c (ap (λ z. if z then text else quoted (list_any is_control text)) e ∙ ap quoted c)
-        ]
+        | inl c ↦ with_double e (ap (λ z. if z then text else quoted (list_any is_control text)) e ∙ ap quoted c)
+        | inr c ↦ with_single e c (ap (λ z. if z then text else quoted (list_any is_control text)) e ∙ ap quoted c)
+      ]
     ]
 
 -- a byte that a printed scalar may begin with

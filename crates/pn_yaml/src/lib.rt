@@ -12,3 +12,6 @@ mod word;
 pub use fault::{Why, YamlFault};
 pub use node::{Node, Scalar};
 pub use print_block::print;
+
+#[cfg(test)]
+mod print_tests;

@@ -19,7 +19,12 @@ fn push_item(out: &mut Vec<u8>, node: &Node) -> Result<(), Memory>
     ensures { OnOk result (out.new.items ≡ out.old.items ++ item_text (view node.now)) }
 {
     match node {
-        Node::Scalar(scalar) => push_word(out, false, scalar.text.as_str().as_bytes(), scalar.plain),
+        Node::Scalar(scalar) => push_word(
+            out,
+            false,
+            scalar.text.as_str().as_bytes(),
+            scalar.plain,
+        ),
         Node::List(items) => push_flow_list(out, items.as_slice()),
         Node::Map(members) => push_flow_map(out, members.as_slice()),
     }

@@ -9,5 +9,5 @@ abbrev pub invariant-push_members-loop-key : goal.invariant-push_members-loop-ke
 invariant-push_members-loop-key l = record {
   flat : l.indent + 2 * members_depth (members_view (drop l.key-index l.members)) ≤ 128;
   same : l.out.items ++ members_lines (level_of l.level) l.indent (members_view (drop l.key-index l.members))
-      ≡ l.initial.out.items ++ members_lines (level_of l.level) l.indent (members_view l.members)
+      ≡ l.initial.out.items ++ members_lines (level_of l.level) l.indent (members_view l.members);
 }
