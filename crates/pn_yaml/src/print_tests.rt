@@ -1,5 +1,5 @@
 // Printed texts: scalars in each form, in a block and in a flow, and a whole text.
-ghost use Rattle.std.specs.Prelude.{◌≡◌, ◌∷◌, [], codes, IfOk};
+ghost use Rattle.std.specs.Prelude.{true, false, ◌≡◌, ◌∷◌, [], codes, IfOk};
 ghost use Rattle.pn_yaml.specs.Data.{scalar, list, map, item, no_items, member, no_members};
 ghost use Rattle.pn_yaml.specs.PrintedSamples.{quoted};
 ghost use Rattle.pn_yaml.specs.View.{view, items_view, members_view};
