@@ -1,5 +1,5 @@
 -- Data printed as a flow is read back, and what stands behind it is left.
-use Rattle.std.proofs.Common.{◌≡◌, ◌≤◌, ◌+◌, ℕ, zero, suc, max, Bool, true, false, List, [], ◌∷◌, ◌++◌, length, Ok, Result, refl, sym, ap, subst, ◌∙◌, append_assoc, arith}
+use Rattle.std.proofs.Common.{◌≡◌, ◌≤◌, ℕ, zero, suc, max, Bool, true, false, List, [], ◌∷◌, ◌++◌, length, Ok, Result, refl, sym, ap, subst, ◌∙◌, append_assoc, arith}
 use Rattle.std.specs.Prelude.{◌==◌, ◌&&◌, ◌||◌, not, codes, if◌then◌else◌}
 use Rattle.std.proofs.lemmas.List.{length-append}
 use Rattle.pn_yaml.specs.declared.fault.Why.TheVariants as why
@@ -12,9 +12,9 @@ use Rattle.pn_yaml.specs.Outcome.{◌>>=◌, wrong}
 use Rattle.pn_yaml.specs.Scalars.{Word, is_colon, word_at}
 use Rattle.pn_yaml.specs.Words.{is_one_of, is_plain, word_text}
 use Rattle.pn_yaml.specs.Printing.{flow_text, items_text, later_items_text, members_text, later_members_text, key_text, flow_marked, flow_items_marked, flow_members_marked}
-use Rattle.pn_yaml.proofs.ByteTests.{and_left, and_right, or_none, not_false, apart, fewer}
+use Rattle.pn_yaml.proofs.ByteTests.{and_left, and_right, not_false, apart, fewer}
 use Rattle.pn_yaml.proofs.PlainLaw.{may_end}
-use Rattle.pn_yaml.proofs.WordLaw.{Begins, opens_word, word_begins, word_law}
+use Rattle.pn_yaml.proofs.WordLaw.{Begins, word_begins, word_law}
 
 abbrev shut : List ℕ
 shut = codes "]}# "

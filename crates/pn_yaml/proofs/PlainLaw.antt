@@ -1,17 +1,16 @@
 -- A scalar printed plain is read back.
-use Rattle.std.proofs.Common.{◌≡◌, ℕ, Bool, true, false, List, [], ◌∷◌, ◌++◌, Ok, refl, sym, ap, ◌∙◌, inl, inr, arith}
+use Rattle.std.proofs.Common.{◌≡◌, ℕ, Bool, true, false, List, [], ◌∷◌, ◌++◌, Ok, refl, ap, ◌∙◌, inl, inr}
 use Rattle.std.specs.Prelude.{◌==◌, ◌&&◌, ◌||◌, not, codes, if◌then◌else◌}
 use Rattle.std.specs.List.{list_all, list_any}
 use Rattle.std.proofs.lemmas.Bool.{cases_Bool}
-use Rattle.std.proofs.lemmas.Bool.Decides.{nat_tests}
 use Rattle.pn_yaml.specs.declared.fault.Why.TheVariants as why
 use Rattle.pn_yaml.specs.declared.scalar.Place.{Place}
 use Rattle.pn_yaml.specs.declared.scalar.Place.TheVariants as place
 use Rattle.pn_yaml.specs.Bytes.{space, starts, is_empty, is_blank, unindented, trimmed, ends_word}
 use Rattle.pn_yaml.specs.Outcome.{wrong}
-use Rattle.pn_yaml.specs.Scalars.{Word, absent, ends_plain, is_left_out, plain_front, plain_rest, plain_word, plain_at}
+use Rattle.pn_yaml.specs.Scalars.{absent, ends_plain, is_left_out, plain_front, plain_rest, plain_word, plain_at}
 use Rattle.pn_yaml.specs.Words.{begins_wrong, ends_wrong, holds_pair, is_one_of, is_shown, may_be_plain}
-use Rattle.pn_yaml.proofs.ByteTests.{and_left, and_right, or_left, or_right, or_none, not_false, apart, fewer}
+use Rattle.pn_yaml.proofs.ByteTests.{and_left, and_right, or_left, or_right, or_none, not_false, apart}
 
 -- whether a place is in a flow
 abbrev pub in_flow : Place → Bool

@@ -1,12 +1,12 @@
 -- A scalar printed in quotes is read back.
-use Rattle.std.proofs.Common.{◌≡◌, ℕ, zero, suc, ◌+◌, ◌-◌, ◌*◌, ◌/◌, ◌%◌, ◌<◌, ◌≤◌, Bool, true, false, List, [], ◌∷◌, ◌++◌, Option, Some, None, Ok, Result, refl, sym, ap, subst, ◌∙◌, inl, inr, append_assoc, arith}
-use Rattle.std.specs.Prelude.{◌==◌, ◌&&◌, ◌||◌, not, nat_lt, nat_le, codes, if◌then◌else◌, encode_utf8}
+use Rattle.std.proofs.Common.{◌≡◌, ℕ, ◌+◌, ◌*◌, ◌/◌, ◌%◌, ◌<◌, Bool, true, false, List, [], ◌∷◌, ◌++◌, Option, Some, Ok, Result, refl, sym, ap, subst, ◌∙◌, inl, inr, append_assoc, arith}
+use Rattle.std.specs.Prelude.{◌==◌, codes, if◌then◌else◌, encode_utf8}
 use Rattle.std.proofs.lemmas.Bool.{cases_Bool, eqb-true}
 use Rattle.std.proofs.lemmas.Bool.Decides.{nat_tests}
 use Rattle.std.proofs.lemmas.Str.{encode_ascii}
 use Rattle.pn_yaml.specs.declared.fault.YamlFault.{YamlFault}
 use Rattle.pn_yaml.specs.Bytes.{starts}
-use Rattle.pn_yaml.specs.Scalars.{Word, bad, closed, go, single, quote, double, slash, digits, quoted_at, with_bytes, turned, turn_of, digit_of, digit_turn, is_surrogate, on_some}
+use Rattle.pn_yaml.specs.Scalars.{Word, bad, closed, go, single, quote, double, slash, quoted_at, with_bytes, turned, turn_of, digit_of, digit_turn, is_surrogate, on_some}
 use Rattle.pn_yaml.specs.Words.{doubled, digit_text, escaped, escaped_byte, is_control}
 
 abbrev Read : Type 0
