@@ -11,7 +11,6 @@ pub mod BlockApart
 pub mod PrintedBytes
 pub mod PrintedLines
 pub mod PrintedRows
-pub mod FlowBack
 pub mod BlockLaw
 pub mod ValueLaw
 pub mod PrintedUtf8
