@@ -10,3 +10,8 @@ pub mod Words
 pub mod Printing
 pub mod Laws
 pub mod Samples
+pub mod Cuts
+pub mod Reading
+pub mod Escapes
+pub mod KeySets
+pub mod FlowSteps
