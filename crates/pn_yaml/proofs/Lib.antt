@@ -5,3 +5,6 @@ pub mod Plains
 pub mod Quotes
 pub mod Escaping
 pub mod KeyLists
+pub mod Failing
+pub mod Shrinking
+pub mod Rounds
