@@ -8,3 +8,5 @@ pub mod KeyLists
 pub mod Failing
 pub mod Shrinking
 pub mod Rounds
+pub mod Flows
+pub mod Steps

@@ -99,14 +99,20 @@ shorter : (text : List ℕ) → starts 44 text ≡ true → length (tail_of text
 shorter [] e = absurd cc
 shorter (b ∷ rest) e = omega arith
 
+abbrev done : {A : Type 0} → A → Result A YamlFault
+done x = Ok x
+
+ok_is : {A : Type 0} (x y : A) → done x ≡ done y → x ≡ y
+ok_is x y e = cc
+
 -- behind a comma the text is shorter
 pub comma_shorter : (line close : ℕ) (text more : List ℕ) → behind_step line close text ≡ Ok (false, more) → length more < length text
 comma_shorter line close text more e =
     elim (starts 44 (unindented text)) as (λ v. starts 44 (unindented text) ≡ v
         → (if◌then◌else◌ {A = Reads Bool} v (Ok (false, tail_of (unindented text))) (if starts close (unindented text) then Ok (true, tail_of (unindented text)) else wrong line why.Flow)) ≡ Ok (false, more) → length more < length text) [
-      | true ↦ λ s f. let same : tail_of (unindented text) ≡ more = cc in omega (arith, ap (λ (t : List ℕ). length t) same, shorter (unindented text) s, unindented_within text)
+      | true ↦ λ s f. let same : tail_of (unindented text) ≡ more = ap (λ (p : Bool × List ℕ). p.1) (ok_is (false, tail_of (unindented text)) (false, more) f) in omega (arith, ap (λ (t : List ℕ). length t) same, shorter (unindented text) s, unindented_within text)
       | false ↦ λ s. elim (starts close (unindented text)) as (λ v. (if◌then◌else◌ {A = Reads Bool} v (Ok (true, tail_of (unindented text))) (wrong line why.Flow)) ≡ Ok (false, more) → length more < length text) [
-          | true ↦ λ f. absurd cc
+          | true ↦ λ f. let h : true ≡ false = ap (λ (p : Bool × List ℕ). p.0) (ok_is (true, tail_of (unindented text)) (false, more) f) in absurd cc
           | false ↦ λ f. absurd cc
         ]
     ] refl e
