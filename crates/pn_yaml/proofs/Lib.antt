@@ -10,3 +10,4 @@ pub mod Shrinking
 pub mod Rounds
 pub mod Flows
 pub mod Steps
+pub mod NodeViews
