@@ -119,7 +119,7 @@ map_at-returns-in_err-value t c =
     let p = err_from_is_err_and c.from_residual-in_err-value.result c.from_residual-in_err-value.ensures.1 in
     let opened = open_step (before_step c.args.line 125 c.members.rest.now) c.in_ok-front.field-0 c.in-Open.front c.in_ok-front.ensures c.in-Open.is in
     let gives : flow_key c.args.line (seen_of c.members.members) c.in-Open.front.now ≡ Ok (c.in_ok-key.key, c.in_ok-key.after.now) =
-        ap (λ (ms : List (List ℕ × Node)). flow_key c.args.line (seen_of ms) c.in-Open.front.now) (sym c.as_slice.ensures) ∙ c.in_ok-key.ensures.gives in
+    ap (λ (ms : List (List ℕ × Node)). flow_key c.args.line (seen_of ms) c.in-Open.front.now) (sym c.as_slice.ensures) ∙ c.in_ok-key.ensures.gives in
     rw (p.1, p.2) (members_unvalued (flow_at c.args.levels c.args.line) c.args.line c.args.text.now c.members.members c.members.rest.now c.in-Open.front.now c.in_ok-key.key c.in_ok-key.after.now c.in_err-value.field-0.0 c.members.invariant.so_far opened gives c.in_err-value.ensures)
 
 pub map_at-returns-in_err-more : goal.map_at-returns-in_err-more
@@ -127,9 +127,9 @@ map_at-returns-in_err-more t c =
     let p = err_from_is_err_and c.from_residual-in_err-more.result c.from_residual-in_err-more.ensures.1 in
     let opened = open_step (before_step c.args.line 125 c.members.rest.now) c.in_ok-front.field-0 c.in-Open.front c.in_ok-front.ensures c.in-Open.is in
     let gives : flow_key c.args.line (seen_of c.members.members) c.in-Open.front.now ≡ Ok (c.in_ok-key.key, c.in_ok-key.after.now) =
-        ap (λ (ms : List (List ℕ × Node)). flow_key c.args.line (seen_of ms) c.in-Open.front.now) (sym c.as_slice.ensures) ∙ c.in_ok-key.ensures.gives in
+    ap (λ (ms : List (List ℕ × Node)). flow_key c.args.line (seen_of ms) c.in-Open.front.now) (sym c.as_slice.ensures) ∙ c.in_ok-key.ensures.gives in
     let read = member_read (flow_at c.args.levels c.args.line) c.args.line (seen_of c.members.members) c.in-Open.front.now c.in_ok-key.key c.in_ok-key.after.now
-        (view c.in_ok-value.value) c.in_ok-value.after.now gives c.in_ok-value.ensures in
+    (view c.in_ok-value.value) c.in_ok-value.after.now gives c.in_ok-value.ensures in
     rw (p.1, p.2) (members_unended (flow_at c.args.levels c.args.line) c.args.line c.args.text.now c.members.members c.members.rest.now c.in-Open.front.now (c.in_ok-key.key, view c.in_ok-value.value) c.in_ok-value.after.now
     c.in_err-more.field-0.0 c.members.invariant.so_far opened read c.in_err-more.ensures)
 
@@ -137,9 +137,9 @@ pub map_at-returns-in-Closed-2 : goal.map_at-returns-in-Closed-2
 map_at-returns-in-Closed-2 t c =
     let opened = open_step (before_step c.args.line 125 c.members.rest.now) c.in_ok-front.field-0 c.in-Open.front c.in_ok-front.ensures c.in-Open.is in
     let gives : flow_key c.args.line (seen_of c.members.members) c.in-Open.front.now ≡ Ok (c.in_ok-key.key, c.in_ok-key.after.now) =
-        ap (λ (ms : List (List ℕ × Node)). flow_key c.args.line (seen_of ms) c.in-Open.front.now) (sym c.as_slice.ensures) ∙ c.in_ok-key.ensures.gives in
+    ap (λ (ms : List (List ℕ × Node)). flow_key c.args.line (seen_of ms) c.in-Open.front.now) (sym c.as_slice.ensures) ∙ c.in_ok-key.ensures.gives in
     let read = member_read (flow_at c.args.levels c.args.line) c.args.line (seen_of c.members.members) c.in-Open.front.now c.in_ok-key.key c.in_ok-key.after.now
-        (view c.in_ok-value.value) c.in_ok-value.after.now gives c.in_ok-value.ensures in
+    (view c.in_ok-value.value) c.in_ok-value.after.now gives c.in_ok-value.ensures in
     let shut = closed_step (behind_step c.args.line 125 c.in_ok-value.after.now) c.in_ok-more.field-0 c.in-Closed-2.after c.in_ok-more.ensures c.in-Closed-2.is in
     let said : List (List ℕ × Node) → Reads Data = λ ms. Ok (map (members_view ms), c.in-Closed-2.after.now) in
     members_ended (flow_at c.args.levels c.args.line) c.args.line c.args.text.now c.members.members c.members.rest.now c.in-Open.front.now c.in_ok-key.key c.in_ok-value.value c.in_ok-value.after.now c.in-Closed-2.after.now
@@ -151,13 +151,13 @@ pub map_at-members-smaller : goal.map_at-members-smaller
 map_at-members-smaller t c =
     let opened = open_step (before_step c.args.line 125 c.members.rest.now) c.in_ok-front.field-0 c.in-Open.front c.in_ok-front.ensures c.in-Open.is in
     let gives : flow_key c.args.line (seen_of c.members.members) c.in-Open.front.now ≡ Ok (c.in_ok-key.key, c.in_ok-key.after.now) =
-        ap (λ (ms : List (List ℕ × Node)). flow_key c.args.line (seen_of ms) c.in-Open.front.now) (sym c.as_slice.ensures) ∙ c.in_ok-key.ensures.gives in
+    ap (λ (ms : List (List ℕ × Node)). flow_key c.args.line (seen_of ms) c.in-Open.front.now) (sym c.as_slice.ensures) ∙ c.in_ok-key.ensures.gives in
     let a : length c.in-Open.front.now ≤ length c.members.rest.now = within_ok (length c.members.rest.now) (before_step c.args.line 125 c.members.rest.now) _ c.in-Open.front.now
-        (before_within c.args.line 125 c.members.rest.now) opened in
+    (before_within c.args.line 125 c.members.rest.now) opened in
     let b : length c.in_ok-key.after.now ≤ length c.in-Open.front.now = within_ok (length c.in-Open.front.now) (flow_key c.args.line (seen_of c.members.members) c.in-Open.front.now) c.in_ok-key.key
-        c.in_ok-key.after.now (key_shorter c.args.line (seen_of c.members.members) c.in-Open.front.now) gives in
+    c.in_ok-key.after.now (key_shorter c.args.line (seen_of c.members.members) c.in-Open.front.now) gives in
     let d : length c.in_ok-value.after.now ≤ length c.in_ok-key.after.now = within_ok (length c.in_ok-key.after.now) (flow_value (flow_at c.args.levels c.args.line) c.args.line c.in_ok-key.after.now)
-        (view c.in_ok-value.value) c.in_ok-value.after.now (value_shorter c.args.levels c.args.line c.in_ok-key.after.now) c.in_ok-value.ensures in
+    (view c.in_ok-value.value) c.in_ok-value.after.now (value_shorter c.args.levels c.args.line c.in_ok-key.after.now) c.in_ok-value.ensures in
     let on = open_step (behind_step c.args.line 125 c.in_ok-value.after.now) c.in_ok-more.field-0 c.in-Open-2.more c.in_ok-more.ensures c.in-Open-2.is in
     let e : length c.in-Open-2.more.now < length c.in_ok-value.after.now = comma_shorter c.args.line 125 c.in_ok-value.after.now c.in-Open-2.more.now on in
     omega (arith, a, b, d, e)
@@ -166,15 +166,15 @@ pub map_at-members-preserved : goal.map_at-members-preserved
 map_at-members-preserved t c =
     let opened = open_step (before_step c.args.line 125 c.members.rest.now) c.in_ok-front.field-0 c.in-Open.front c.in_ok-front.ensures c.in-Open.is in
     let gives : flow_key c.args.line (seen_of c.members.members) c.in-Open.front.now ≡ Ok (c.in_ok-key.key, c.in_ok-key.after.now) =
-        ap (λ (ms : List (List ℕ × Node)). flow_key c.args.line (seen_of ms) c.in-Open.front.now) (sym c.as_slice.ensures) ∙ c.in_ok-key.ensures.gives in
+    ap (λ (ms : List (List ℕ × Node)). flow_key c.args.line (seen_of ms) c.in-Open.front.now) (sym c.as_slice.ensures) ∙ c.in_ok-key.ensures.gives in
     let read = member_read (flow_at c.args.levels c.args.line) c.args.line (seen_of c.members.members) c.in-Open.front.now c.in_ok-key.key c.in_ok-key.after.now
-        (view c.in_ok-value.value) c.in_ok-value.after.now gives c.in_ok-value.ensures in
+    (view c.in_ok-value.value) c.in_ok-value.after.now gives c.in_ok-value.ensures in
     let a : length c.in-Open.front.now ≤ length c.members.rest.now = within_ok (length c.members.rest.now) (before_step c.args.line 125 c.members.rest.now) _ c.in-Open.front.now
-        (before_within c.args.line 125 c.members.rest.now) opened in
+    (before_within c.args.line 125 c.members.rest.now) opened in
     let b : length c.in_ok-key.after.now ≤ length c.in-Open.front.now = within_ok (length c.in-Open.front.now) (flow_key c.args.line (seen_of c.members.members) c.in-Open.front.now) c.in_ok-key.key
-        c.in_ok-key.after.now (key_shorter c.args.line (seen_of c.members.members) c.in-Open.front.now) gives in
+    c.in_ok-key.after.now (key_shorter c.args.line (seen_of c.members.members) c.in-Open.front.now) gives in
     let d : length c.in_ok-value.after.now ≤ length c.in_ok-key.after.now = within_ok (length c.in_ok-key.after.now) (flow_value (flow_at c.args.levels c.args.line) c.args.line c.in_ok-key.after.now)
-        (view c.in_ok-value.value) c.in_ok-value.after.now (value_shorter c.args.levels c.args.line c.in_ok-key.after.now) c.in_ok-value.ensures in
+    (view c.in_ok-value.value) c.in_ok-value.after.now (value_shorter c.args.levels c.args.line c.in_ok-key.after.now) c.in_ok-value.ensures in
     let on = open_step (behind_step c.args.line 125 c.in_ok-value.after.now) c.in_ok-more.field-0 c.in-Open-2.more c.in_ok-more.ensures c.in-Open-2.is in
     let e : length c.in-Open-2.more.now < length c.in_ok-value.after.now = comma_shorter c.args.line 125 c.in_ok-value.after.now c.in-Open-2.more.now on in
     record {
