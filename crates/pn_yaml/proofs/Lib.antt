@@ -15,3 +15,15 @@ pub mod BlockLaw
 pub mod ValueLaw
 pub mod PrintedUtf8
 pub mod ReadBack
+pub mod Tests
+pub mod Cutting
+pub mod Spacing
+pub mod Plains
+pub mod Quotes
+pub mod Escaping
+pub mod KeyLists
+pub mod Failing
+pub mod Shrinking
+pub mod Rounds
+pub mod Flows
+pub mod Steps

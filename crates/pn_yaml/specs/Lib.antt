@@ -13,3 +13,8 @@ pub mod Samples
 pub mod PrintedSamples
 pub mod PlainRun
 pub mod Levels
+pub mod Cuts
+pub mod Reading
+pub mod Escapes
+pub mod KeySets
+pub mod FlowSteps

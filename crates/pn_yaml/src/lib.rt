@@ -1,6 +1,7 @@
 //! A subset of YAML 1.2: block maps and lists, flow values on one line, quoted and plain scalars.
 #![tactic(auto)]
 
+mod escape;
 mod fault;
 mod laws;
 mod level;
@@ -9,6 +10,12 @@ mod print_block;
 mod print_flow;
 mod scalar;
 mod word;
+mod flow;
+mod keys;
+mod plain;
+mod quoted;
+mod spaces;
+mod split;
 
 pub use fault::{Why, YamlFault};
 pub use laws::{print_law, read_law};
@@ -17,3 +24,6 @@ pub use print_block::print;
 
 #[cfg(test)]
 mod print_tests;
+
+#[cfg(test)]
+mod flow_tests;
