@@ -10,3 +10,4 @@ pub mod Words
 pub mod Printing
 pub mod Laws
 pub mod Samples
+pub mod Cursor

@@ -2,7 +2,10 @@
 #![tactic(auto)]
 
 mod fault;
+mod indent;
+mod line;
 mod node;
+mod rows;
 mod scalar;
 
 pub use fault::{Why, YamlFault};
