@@ -11,3 +11,8 @@ pub mod Printing
 pub mod Laws
 pub mod Samples
 pub mod Cursor
+pub mod Cuts
+pub mod Reading
+pub mod Escapes
+pub mod KeySets
+pub mod FlowSteps
