@@ -88,7 +88,12 @@ passed_same (s ∷ rows) r below e =
     [ true ↦ λ o f. passed_same rows r below f
     | false ↦ λ o f. let same : s ≡ r = cc in subst (λ (x : Row). is_passed_over x ≡ false) same o ] refl e
 
+pub passed_other : (r : Row) (below : List Row) → is_passed_over r ≡ false → passed (r ∷ below) ≡ r ∷ below
+passed_other r below over = rw over refl
+
+unopened_other : (r : Row) (below : List Row) → is_three 45 r.bytes ≡ false → unopened (r ∷ below) ≡ r ∷ below
+unopened_other r below other = rw other refl
+
 pub first_ahead_same : (rows : List Row) (r : Row) (below : List Row) → passed rows ≡ r ∷ below → is_three 45 r.bytes ≡ false → first_ahead rows ≡ met (r ∷ below)
 first_ahead_same rows r below e other =
-    let over : is_passed_over r ≡ false = passed_same rows r below e in
-    ap (λ (x : List Row). ahead (unopened x)) e ∙ rw (other, over) refl
+    ap (λ (x : List Row). ahead (unopened x)) e ∙ ap ahead (unopened_other r below other) ∙ ap met (passed_other r below (passed_same rows r below e))

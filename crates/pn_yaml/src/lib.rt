@@ -3,15 +3,14 @@
 
 mod escape;
 mod fault;
-mod indent;
-mod line;
-mod node;
-mod rows;
 mod flow;
+mod indent;
 mod keys;
+mod line;
 mod node;
 mod plain;
 mod quoted;
+mod rows;
 mod scalar;
 mod spaces;
 mod split;
