@@ -16,3 +16,5 @@ pub mod Reading
 pub mod Escapes
 pub mod KeySets
 pub mod FlowSteps
+pub mod Literals
+pub mod BlockSteps
