@@ -1,2 +1,6 @@
 pub mod Indentations
 pub mod LineEnds
+pub mod Headers
+pub mod Tests
+pub mod Cutting
+pub mod Spacing

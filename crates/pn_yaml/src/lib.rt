@@ -12,7 +12,7 @@ mod literal;
 mod node;
 mod plain;
 mod quoted;
-mod read;
+mod reading;
 mod rows;
 mod scalar;
 mod spaces;
@@ -21,7 +21,7 @@ mod value;
 
 pub use fault::{Why, YamlFault};
 pub use node::{Node, Scalar};
-pub use read::read;
+pub use reading::read;
 
 #[cfg(test)]
 mod flow_tests;
