@@ -4,3 +4,5 @@ pub mod Headers
 pub mod Tests
 pub mod Cutting
 pub mod Spacing
+pub mod Outcomes
+pub mod Filling
