@@ -3,3 +3,10 @@ pub mod LineEnds
 pub mod Headers
 pub mod Outcomes
 pub mod Filling
+pub mod Tests
+pub mod Cutting
+pub mod Spacing
+pub mod Plains
+pub mod Quotes
+pub mod Escaping
+pub mod KeyLists

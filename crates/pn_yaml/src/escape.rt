@@ -49,6 +49,7 @@ fn digit_at(line: u32, text: &str) -> Result<(u32, &str), YamlFault>
 }
 
 // The number with two more digits.
+#[tactic(auto, unfolding(crate::specs::Escapes::two_at))]
 fn two_at(line: u32, value: u32, text: &str) -> Result<(u32, &str), YamlFault>
     requires { value < 256 }
     ensures gives { Gives (λ r. (r.0, r.1.now)) result (two_at line value text.now) }
@@ -70,6 +71,7 @@ fn character(line: u32, code: u32, rest: &str) -> Result<(char, &str), YamlFault
 }
 
 // A character by its code, of two digits behind `x` and four behind `u`.
+#[tactic(auto, unfolding(crate::specs::Escapes::code_at))]
 fn code_at(line: u32, b: u8, text: &str) -> Result<(char, &str), YamlFault>
     ensures { Gives (λ r. (r.0, r.1.now)) result (code_at line b text.now) }
 {
@@ -86,6 +88,7 @@ fn code_at(line: u32, b: u8, text: &str) -> Result<(char, &str), YamlFault>
 }
 
 /// A character by what is behind its backslash, and what is behind that.
+#[tactic(auto, unfolding(crate::specs::Escapes::escape_at))]
 pub(crate) fn escape_at(line: u32, text: &str) -> Result<(char, &str), YamlFault>
     ensures { Gives (λ r. (r.0, r.1.now)) result (escape_at line text.now) }
 {

@@ -1,5 +1,6 @@
 // The keys of a map that is being read.
-ghost use Rattle.std.specs.Prelude.{◌≡◌, ◌∷◌, [], List, IfOk, OnOk, OnTrue, not};
+ghost use Rattle.std.specs.Prelude.{◌≡◌, ◌∷◌, [], List, IfOk, not};
+ghost use Rattle.std.specs.Bool.{OnTrue};
 ghost use Rattle.pn_yaml.specs.Data.{is_among};
 ghost use Rattle.pn_yaml.specs.KeySets.{AreKeys, HasKeys, rises, seen_of};
 
