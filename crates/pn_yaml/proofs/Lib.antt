@@ -10,3 +10,4 @@ pub mod Plains
 pub mod Quotes
 pub mod Escaping
 pub mod KeyLists
+pub mod Fewer
