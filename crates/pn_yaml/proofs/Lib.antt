@@ -11,3 +11,5 @@ pub mod Quotes
 pub mod Escaping
 pub mod KeyLists
 pub mod Fewer
+pub mod Blocking
+pub mod Views

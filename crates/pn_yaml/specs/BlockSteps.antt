@@ -1,5 +1,5 @@
 -- The parts of reading a block.
-use Rattle.std.specs.Prelude.{ℕ, true, false, List, [], ◌∷◌, Result, Ok, Err, if◌then◌else◌}
+use Rattle.std.specs.Prelude.{ℕ, ◌==◌, ◌&&◌, Bool, true, false, List, [], ◌∷◌, Result, Ok, Err, if◌then◌else◌}
 use Rattle.pn_yaml.specs.declared.fault.Why.{Why}
 use Rattle.pn_yaml.specs.declared.fault.Why.TheVariants as why
 use Rattle.pn_yaml.specs.declared.fault.YamlFault.{YamlFault}
@@ -8,7 +8,7 @@ use Rattle.pn_yaml.specs.Bytes.{is_bare}
 use Rattle.pn_yaml.specs.Data.{Data, is_among}
 use Rattle.pn_yaml.specs.Flow.{flow_at}
 use Rattle.pn_yaml.specs.Outcome.{◌>>=◌, wrong}
-use Rattle.pn_yaml.specs.Rows.{Row, content, ahead}
+use Rattle.pn_yaml.specs.Rows.{Row, content, ahead, row_indentation}
 
 -- the lines ahead behind a value that ends on its line
 abbrev pub line_end : Why → ℕ → List ℕ → List Row → Result (List Row) YamlFault
@@ -22,3 +22,7 @@ flow_on levels text row rows = flow_at levels row.line text >>= λ f. ending why
 abbrev pub block_key : List (List ℕ) → Row → Result (List ℕ × List ℕ) YamlFault
 block_key seen row = if is_item (content row) then wrong row.line why.Key
     else key_at row.line (content row) >>= λ k. if is_among k.0 seen then wrong row.line why.Twice else Ok k
+
+-- an item of a list of this indentation
+abbrev pub is_item_at : ℕ → Row → Bool
+is_item_at indent row = (row_indentation row == indent) && is_item (content row)

@@ -1,10 +1,10 @@
 // Blocks: maps and lists of lines with one indentation.
 ghost use Rattle.std.specs.Prelude.{◌≡◌, ◌∷◌, suc, [], length, true, false, IfOk, MatchOption};
-ghost use Rattle.pn_yaml.specs.BlockSteps.{block_key};
+ghost use Rattle.pn_yaml.specs.BlockSteps.{block_key, is_item_at};
 ghost use Rattle.pn_yaml.specs.Blocks.{block_at, block_items, block_members, is_below, is_item, key_at, list_in, map_in, root_at, unwritten, value_on};
 ghost use Rattle.pn_yaml.specs.Bytes.{tail_of};
 ghost use Rattle.pn_yaml.specs.Cursor.{node_ahead, row_of, rows_left};
-ghost use Rattle.pn_yaml.specs.Rows.{row_indentation};
+ghost use Rattle.pn_yaml.specs.Rows.{content, row_indentation};
 ghost use Rattle.pn_yaml.specs.KeySets.{AreKeys, seen_of};
 ghost use Rattle.pn_yaml.specs.Outcome.{Gives};
 
@@ -124,6 +124,19 @@ fn value_on<'a>(
     }
 }
 
+// What is behind the `-` of an item of a list of this indentation.
+fn item_at(indent: usize, line: Line<'_>) -> Option<&str>
+    ensures { MatchOption result (is_item_at indent (row_of line.entry) ≡ false)
+        (λ text. (is_item_at indent (row_of line.entry) ≡ true)
+        × (text.now ≡ tail_of (content (row_of line.entry)))) }
+{
+    if line.indent == indent {
+        behind_dash(line.content)
+    } else {
+        None
+    }
+}
+
 // The items of a block list, which begins with this line.
 #[cycle(block)]
 fn list_at<'a>(
@@ -139,17 +152,14 @@ fn list_at<'a>(
     let mut items = Items::new(alloc);
     let mut next = Some(front);
     'items: while let Some(front) = next {
-        if front.line.indent != indent {
-            break;
-        }
-        let Some(text) = behind_dash(front.line.content) else {
-            break;
+        let Some(text) = item_at(indent, front.line) else {
+            return Ok((Node::List(items), Some(front)));
         };
         let (item, after) = value_on(alloc, levels, false, text, front)?;
         items.push(item)?;
         next = after;
     }
-    Ok((Node::List(items), next))
+    Ok((Node::List(items), None))
 }
 
 // The members of a block map, which begins with this line.
@@ -169,7 +179,7 @@ fn map_at<'a>(
     let mut next = Some(front);
     'members: while let Some(front) = next {
         if front.line.indent < indent {
-            break;
+            return Ok((Node::Map(members), Some(front)));
         }
         if front.line.indent > indent {
             return Err(YamlFault::Line(front.line.number, Why::Indent));
@@ -179,7 +189,7 @@ fn map_at<'a>(
         members.push((key, value))?;
         next = after;
     }
-    Ok((Node::Map(members), next))
+    Ok((Node::Map(members), None))
 }
 
 /// The block that begins with this line, where so many levels are left below it.
