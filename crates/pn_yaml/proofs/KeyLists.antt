@@ -1,15 +1,18 @@
 -- Keys of members, and sets of them.
-use Rattle.std.proofs.Common.{◌≡◌, ℕ, ◌-◌, suc, length, arith, List, [], ◌∷◌, ◌++◌, Bool, true, false, cond, Option, Some, None, Ordering, refl, sym, ap, subst, ◌∙◌}
+use Rattle.std.proofs.Common.{◌≡◌, ℕ, ◌-◌, ◌+◌, ◌<◌, suc, length, get_or, take, arith, List, [], ◌∷◌, ◌++◌, Bool, true, false, cond, Option, Some, None, Ordering, refl, sym, ap, subst, ◌∙◌}
 use Rattle.std.specs.Prelude.{◌&&◌, ◌||◌, bytes_eq, slice_get, not}
+use Rattle.std.specs.Bool.{OnTrue}
 use Rattle.std.specs.BTreeSet.{BTreeSet, contains}
 use Rattle.std.specs.Cmp.Lexicographic.{slice_cmp}
 use Rattle.std.specs.Ordering.{nat_cmp, is_lt, is_eq}
 use Rattle.std.specs.declared.cmp.Ordering.TheVariants as order
 use Rattle.std.proofs.lemmas.Cmp.{nat_list_cmp_total}
 use Rattle.std.proofs.lemmas.Map.Text.{is_eq-slice_cmp}
+use Rattle.std.proofs.lemmas.List.{take_more}
+use Rattle.pn_yaml.specs.declared.keys.Keys.{Keys}
 use Rattle.pn_yaml.specs.declared.node.Node.{Node}
 use Rattle.pn_yaml.specs.Data.{is_among}
-use Rattle.pn_yaml.specs.KeySets.{HasKeys, all_rise, rises, seen_of, seen_onto}
+use Rattle.pn_yaml.specs.KeySets.{AreKeys, HasKeys, all_rise, rises, seen_of, seen_onto}
 use Rattle.pn_yaml.proofs.Tests.{both}
 
 abbrev Members : Type 0
@@ -70,3 +73,22 @@ has_more old new key seen has grown k =
     grown k ∙ or_cond (is_eq (slice_cmp nat_cmp key k)) (contains (slice_cmp nat_cmp) old k)
     ∙ ap (λ (v : Bool). v || contains (slice_cmp nat_cmp) old k) (is_eq-slice_cmp key k)
     ∙ ap (λ (v : Bool). bytes_eq key k || v) (has k)
+
+pub on_true : (b : Bool) (P : Type 0) → P → OnTrue b P
+on_true true P p = p
+on_true false P p = tt
+
+-- the keys with the next member's
+pub seen_next : (ms : Members) (i : ℕ) (m : List ℕ × Node) (key : List ℕ) → i < length ms → m ≡ get_or ms i m → key ≡ m.0 → seen_of (take (i + 1) ms) ≡ key ∷ seen_of (take i ms)
+seen_next ms i m key l e f =
+    ap seen_of (take_more ms i m l) ∙ seen_more (take i ms) (get_or ms i m) ∙ ap (λ (x : List ℕ × Node). x.0 ∷ seen_of (take i ms)) (sym e)
+    ∙ ap (λ (k : List ℕ). k ∷ seen_of (take i ms)) (sym f)
+
+-- a key more, where copies tell which there are
+pub kept : (keys : Keys) (new : BTreeSet (List ℕ)) (key : List ℕ) (seen : List (List ℕ)) → keys.rise ≡ false → HasKeys keys.copies seen
+    → ((q : List ℕ) → contains (slice_cmp nat_cmp) new q ≡ cond (is_eq (slice_cmp nat_cmp key q)) true (contains (slice_cmp nat_cmp) keys.copies q))
+    → AreKeys (record { rise = keys.rise; copies = new }) (key ∷ seen)
+kept keys new key seen still has grown = record {
+  rising = λ e. absurd (let f = sym still ∙ e in cc);
+  copied = λ e. has_more keys.copies new key seen has grown;
+}

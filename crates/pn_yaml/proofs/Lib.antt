@@ -13,3 +13,8 @@ pub mod KeyLists
 pub mod Fewer
 pub mod Blocking
 pub mod Views
+pub mod Failing
+pub mod Shrinking
+pub mod Rounds
+pub mod Flows
+pub mod Steps

@@ -35,7 +35,7 @@ fn end_at(a: u8, b: u8, text: &[u8]) -> &[u8]
 }
 
 // The text before the first one of two ASCII bytes, and from there on.
-fn before(a: u8, b: u8, text: &str) -> (&str, &str)
+fn parted(a: u8, b: u8, text: &str) -> (&str, &str)
     requires a { a < 128 }
     requires b { b < 128 }
     ensures { EndsAt a b text.now result.0.now result.1.now }
@@ -47,7 +47,7 @@ fn before(a: u8, b: u8, text: &str) -> (&str, &str)
 pub(crate) fn single_at(alloc: Global, line: u32, text: &str) -> Result<(Scalar, &str), YamlFault>
     ensures { Gives (λ r. (word_of r.0, r.1.now)) result (quoted_at line single text.now) }
 {
-    let (front, closing) = before(b'\'', b'\'', text);
+    let (front, closing) = parted(b'\'', b'\'', text);
     let Some(after) = behind(b'\'', closing) else {
         return Err(YamlFault::Line(line, Why::Quote));
     };
@@ -64,7 +64,7 @@ fn doubled_at(alloc: Global, line: u32, text: &str) -> Result<(Scalar, &str), Ya
     let mut read = String::new(alloc);
     let mut rest = text;
     'quotes: loop {
-        let (front, closing) = before(b'\'', b'\'', rest);
+        let (front, closing) = parted(b'\'', b'\'', rest);
         read.push_str(front)?;
         let Some(after) = behind(b'\'', closing) else {
             return Err(YamlFault::Line(line, Why::Quote));
@@ -81,7 +81,7 @@ fn doubled_at(alloc: Global, line: u32, text: &str) -> Result<(Scalar, &str), Ya
 pub(crate) fn double_at(alloc: Global, line: u32, text: &str) -> Result<(Scalar, &str), YamlFault>
     ensures { Gives (λ r. (word_of r.0, r.1.now)) result (quoted_at line double text.now) }
 {
-    let (front, closing) = before(b'"', b'\\', text);
+    let (front, closing) = parted(b'"', b'\\', text);
     match behind(b'"', closing) {
         Some(after) => Ok((quoted(alloc, front)?, after)),
         None => escaped_at(alloc, line, text),
@@ -95,7 +95,7 @@ fn escaped_at(alloc: Global, line: u32, text: &str) -> Result<(Scalar, &str), Ya
     let mut read = String::new(alloc);
     let mut rest = text;
     'escapes: loop {
-        let (front, closing) = before(b'"', b'\\', rest);
+        let (front, closing) = parted(b'"', b'\\', rest);
         read.push_str(front)?;
         if let Some(after) = behind(b'"', closing) {
             return Ok((quoted(alloc, read.as_str())?, after));

@@ -5,6 +5,6 @@ use Rattle.pn_yaml.proofs.Quotes.{double_closed, word_done}
 use Rattle.pn_yaml.proofs.quoted.double_at.Goals as goal
 
 pub returns-in_ok-quoted-in-Some : goal.returns-in_ok-quoted-in-Some
-returns-in_ok-quoted-in-Some c = word_done (quoted_at c.args.line double c.args.text.now) (word_of c.in_ok-quoted.field-0) c.before.result.0.now c.before.result.0.now c.in-Some.after.now
-    (double_closed c.args.line c.args.text.now c.before.result.0.now c.before.result.1.now c.in-Some.after.now c.before.ensures c.in-Some.ensures)
-    c.in_ok-quoted.ensures refl
+returns-in_ok-quoted-in-Some c = word_done (quoted_at c.args.line double c.args.text.now) (word_of c.in_ok-quoted-in-Some.field-0) c.parted.result.0.now c.parted.result.0.now c.in-Some.after.now
+    (double_closed c.args.line c.args.text.now c.parted.result.0.now c.parted.result.1.now c.in-Some.after.now c.parted.ensures c.in-Some.ensures)
+    c.in_ok-quoted-in-Some.ensures refl
