@@ -1,13 +1,16 @@
 -- Blocks: what was read so far, before what is left.
-use Rattle.std.proofs.Common.{◌≡◌, ℕ, zero, suc, ◌+◌, ◌<◌, ◌≤◌, ◌&&◌, ◌||◌, Bool, true, false, cond, eqb, leb, ltb, List, [], ◌∷◌, ◌++◌, length, map, Result, Ok, Err, refl, sym, ap, ◌∙◌, subst, arith}
+use Rattle.std.proofs.Common.{◌≡◌, ℕ, zero, suc, ◌+◌, ◌<◌, ◌≤◌, ◌&&◌, ◌||◌, Bool, true, false, cond, eqb, leb, ltb, List, [], ◌∷◌, ◌++◌, length, map, Option, Some, None, ◌-◌, Result, Ok, Err, refl, sym, ap, ◌∙◌, subst, arith}
 use Rattle.std.proofs.lemmas.Bool.{lt-ltb, le-ltb}
 use Rattle.pn_yaml.specs.declared.fault.YamlFault.{YamlFault}
 use Rattle.pn_yaml.specs.declared.fault.Why.TheVariants as why
 use Rattle.pn_yaml.specs.declared.fault.YamlFault.TheVariants as fault
-use Rattle.pn_yaml.specs.BlockSteps.{block_key, is_item_at}
-use Rattle.pn_yaml.specs.Blocks.{Reader, with_item, with_member, block_items, block_member, block_members, is_item, key_at}
-use Rattle.pn_yaml.specs.Bytes.{tail_of}
+use Rattle.pn_yaml.specs.BlockSteps.{block_key, flow_on, is_item_at, items_from, members_from}
+use Rattle.pn_yaml.specs.Blocks.{Reader, Style, with_item, with_member, block_items, block_member, block_members, is_item, key_at, scalar_block, scalar_on, style_of, unwritten, value_on, root_at, block_at}
+use Rattle.pn_yaml.specs.Bytes.{is_bare, tail_of, trimmed, unindented}
 use Rattle.pn_yaml.specs.Data.{Data, Items, no_items, item, Members, no_members, member, is_among}
+use Rattle.pn_yaml.specs.Flow.{is_flow}
+use Rattle.pn_yaml.specs.Scalars.{plain_front}
+use Rattle.pn_yaml.specs.declared.scalar.Place.TheVariants as place
 use Rattle.pn_yaml.specs.Outcome.{◌>>=◌, wrong}
 use Rattle.pn_yaml.specs.Rows.{Row, row_indentation, content}
 use Rattle.pn_yaml.specs.View.{items_of, members_of}
@@ -51,11 +54,12 @@ items_all : (front : List Data) → items_onto front no_items ≡ items_of front
 items_all [] = refl
 items_all (d ∷ front) = ap (item d) (items_all front)
 
-pub items_begin : (value : Reader) (i j : ℕ) (r : Row) (below : List Row) → i ≡ j → ItemsLeft value i [] (r ∷ below) (block_items value j (suc (length below)) (r ∷ below))
-items_begin value i j r below e = record {
+pub items_begin : (levels i : ℕ) (r : Row) (below : List Row) → i ≡ row_indentation r → ItemsLeft (value_on levels) i [] (r ∷ below) (items_from levels r below)
+unfolding items_from
+items_begin levels i r below e = record {
   steps = suc (length below);
   enough = omega arith;
-  so_far = with_items_nil (block_items value i (suc (length below)) (r ∷ below)) ∙ ap (λ (x : ℕ). block_items value x (suc (length below)) (r ∷ below)) e;
+  so_far = with_items_nil (block_items (value_on levels) i (suc (length below)) (r ∷ below)) ∙ ap (λ (x : ℕ). block_items (value_on levels) x (suc (length below)) (r ∷ below)) e;
 }
 
 item_read : (value : Reader) (i k : ℕ) (r : Row) (below : List Row) (d : Data) (next : List Row) → is_item_at i r ≡ true → value false (tail_of (content r)) r below ≡ Ok (d, next)
@@ -134,11 +138,12 @@ members_all : (front : List (List ℕ × Data)) → members_onto front no_member
 members_all [] = refl
 members_all (m ∷ front) = ap (member m.0 m.1) (members_all front)
 
-pub members_begin : (value : Reader) (i j : ℕ) (r : Row) (below : List Row) → i ≡ j → MembersLeft value i [] [] (r ∷ below) (block_members value j (suc (length below)) [] (r ∷ below))
-members_begin value i j r below e = record {
+pub members_begin : (levels i : ℕ) (r : Row) (below : List Row) → i ≡ row_indentation r → MembersLeft (value_on levels) i [] [] (r ∷ below) (members_from levels r below)
+unfolding members_from
+members_begin levels i r below e = record {
   steps = suc (length below);
   enough = omega arith;
-  so_far = with_members_nil (block_members value i (suc (length below)) [] (r ∷ below)) ∙ ap (λ (x : ℕ). block_members value x (suc (length below)) [] (r ∷ below)) e;
+  so_far = with_members_nil (block_members (value_on levels) i (suc (length below)) [] (r ∷ below)) ∙ ap (λ (x : ℕ). block_members (value_on levels) x (suc (length below)) [] (r ∷ below)) e;
 }
 
 abbrev in_line : Reader → ℕ → ℕ → List (List ℕ) → Row → List Row → MembersRead
@@ -275,3 +280,39 @@ pub value_fail : (value : Reader) (i : ℕ) (seen : List (List ℕ)) (front : Li
     → MembersLeft value i seen front (r ∷ below) total → row_indentation r ≡ i → block_key seen r ≡ Ok key → value true key.1 r below ≡ Err e → total ≡ Err e
 value_fail value i seen front r below total key e h is k f =
     sym h.so_far ∙ member_fail_at value i h.steps seen front r below e h.enough is (key_read value seen r below key k ∙ rw f refl)
+
+-- ---- values
+
+pub value_bare : (levels : ℕ) (keyed : Bool) (text : List ℕ) (row : Row) (rows : List Row) → (levels ≡ 0 → ⊥) → is_bare text ≡ true
+    → value_on levels keyed text row rows ≡ unwritten (value_on (levels - 1)) keyed (row_indentation row) rows
+value_bare zero keyed text row rows some is = absurd (some refl)
+value_bare (suc levels) keyed text row rows some is =
+    let e : suc levels - 1 ≡ levels = omega arith in
+    rw is (ap (λ (n : ℕ). unwritten (value_on n) keyed (row_indentation row) rows) (sym e))
+
+value_block : (levels : ℕ) (keyed : Bool) (text : List ℕ) (row : Row) (rows : List Row) (s : Style) → (levels ≡ 0 → ⊥) → is_bare text ≡ false → is_flow (unindented text) ≡ false
+    → style_of (trimmed (plain_front place.Value (unindented text))) ≡ Some s → value_on levels keyed text row rows ≡ scalar_block s (row_indentation row) rows
+value_block zero keyed text row rows s some bare flow style = absurd (some refl)
+value_block (suc levels) keyed text row rows s some bare flow style = rw (bare, flow, style) refl
+
+value_scalar : (levels : ℕ) (keyed : Bool) (text : List ℕ) (row : Row) (rows : List Row) → (levels ≡ 0 → ⊥) → is_bare text ≡ false → is_flow (unindented text) ≡ false
+    → style_of (trimmed (plain_front place.Value (unindented text))) ≡ None → value_on levels keyed text row rows ≡ scalar_on (unindented text) row rows
+value_scalar zero keyed text row rows some bare flow style = absurd (some refl)
+value_scalar (suc levels) keyed text row rows some bare flow style = rw (bare, flow, style) refl
+
+abbrev styled_as : List ℕ → Option Style
+styled_as t = style_of (trimmed (plain_front place.Value t))
+
+pub value_block_at : (levels : ℕ) (keyed : Bool) (text : List ℕ) (row : Row) (rows : List Row) (t : List ℕ) (s : Style) (i : ℕ) → (levels ≡ 0 → ⊥) → is_bare text ≡ false → t ≡ unindented text
+    → is_flow t ≡ false → styled_as t ≡ Some s → i ≡ row_indentation row → value_on levels keyed text row rows ≡ scalar_block s i rows
+value_block_at levels keyed text row rows t s i some bare e flow style at =
+    let F : List ℕ → Type 0 = λ u. is_flow u ≡ false in
+    let S : List ℕ → Type 0 = λ u. styled_as u ≡ Some s in
+    value_block levels keyed text row rows s some bare (subst F e flow) (subst S e style) ∙ ap (λ (n : ℕ). scalar_block s n rows) (sym at)
+
+pub value_scalar_at : (levels : ℕ) (keyed : Bool) (text : List ℕ) (row : Row) (rows : List Row) (t : List ℕ) → (levels ≡ 0 → ⊥) → is_bare text ≡ false → t ≡ unindented text → is_flow t ≡ false
+    → styled_as t ≡ None → value_on levels keyed text row rows ≡ scalar_on t row rows
+value_scalar_at levels keyed text row rows t some bare e flow style =
+    let F : List ℕ → Type 0 = λ u. is_flow u ≡ false in
+    let S : List ℕ → Type 0 = λ u. styled_as u ≡ None in
+    value_scalar levels keyed text row rows some bare (subst F e flow) (subst S e style) ∙ ap (λ (u : List ℕ). scalar_on u row rows) (sym e)

@@ -1,7 +1,7 @@
 // Blocks: maps and lists of lines with one indentation.
-ghost use Rattle.std.specs.Prelude.{◌≡◌, ◌∷◌, suc, [], length, true, false, IfOk, MatchOption};
-ghost use Rattle.pn_yaml.specs.BlockSteps.{block_key, is_item_at};
-ghost use Rattle.pn_yaml.specs.Blocks.{block_at, block_items, block_members, is_below, is_item, key_at, list_in, map_in, root_at, unwritten, value_on};
+ghost use Rattle.std.specs.Prelude.{◌≡◌, ◌∷◌, true, false, IfOk, MatchOption};
+ghost use Rattle.pn_yaml.specs.BlockSteps.{block_key, is_item_at, items_from, members_from};
+ghost use Rattle.pn_yaml.specs.Blocks.{block_at, is_below, is_item, key_at, list_in, map_in, root_at, unwritten, value_on};
 ghost use Rattle.pn_yaml.specs.Bytes.{tail_of};
 ghost use Rattle.pn_yaml.specs.Cursor.{node_ahead, row_of, rows_left};
 ghost use Rattle.pn_yaml.specs.Rows.{content, row_indentation};
@@ -144,9 +144,8 @@ fn list_at<'a>(
     levels: u32,
     front: Front<'a>,
 ) -> Result<(Node, Option<Front<'a>>), YamlFault>
-    ensures { Gives node_ahead result (list_in (block_items (value_on levels)
-        (row_indentation (row_of front.entry.line)) (suc (length (rows_left front.entry.below)))
-        (row_of front.entry.line ∷ rows_left front.entry.below))) }
+    ensures { Gives node_ahead result
+        (list_in (items_from levels (row_of front.entry.line) (rows_left front.entry.below))) }
 {
     let indent = front.line.indent;
     let mut items = Items::new(alloc);
@@ -169,9 +168,8 @@ fn map_at<'a>(
     levels: u32,
     front: Front<'a>,
 ) -> Result<(Node, Option<Front<'a>>), YamlFault>
-    ensures { Gives node_ahead result (map_in (block_members (value_on levels)
-        (row_indentation (row_of front.entry.line)) (suc (length (rows_left front.entry.below))) []
-        (row_of front.entry.line ∷ rows_left front.entry.below))) }
+    ensures { Gives node_ahead result
+        (map_in (members_from levels (row_of front.entry.line) (rows_left front.entry.below))) }
 {
     let indent = front.line.indent;
     let mut keys = Keys::new(alloc);
@@ -194,6 +192,7 @@ fn map_at<'a>(
 
 /// The block that begins with this line, where so many levels are left below it.
 #[cycle(block)]
+#[tactic(auto, unfolding(crate::specs::BlockSteps::items_from, crate::specs::BlockSteps::members_from))]
 fn block_at<'a>(
     alloc: Global,
     levels: u32,
