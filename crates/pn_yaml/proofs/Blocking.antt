@@ -316,3 +316,26 @@ value_scalar_at levels keyed text row rows t some bare e flow style =
     let F : List ℕ → Type 0 = λ u. is_flow u ≡ false in
     let S : List ℕ → Type 0 = λ u. styled_as u ≡ None in
     value_scalar levels keyed text row rows some bare (subst F e flow) (subst S e style) ∙ ap (λ (u : List ℕ). scalar_on u row rows) (sym e)
+
+-- ---- the root
+
+abbrev pub Read : Type 0
+Read = Result (Data × List Row) YamlFault
+
+first_of_three : (a b : Bool) (x y z : Read) → a ≡ true → cond a x (cond b y z) ≡ x
+first_of_three a b x y z e = rw e refl
+
+second_of_three : (a b : Bool) (x y z : Read) → a ≡ false → b ≡ true → cond a x (cond b y z) ≡ y
+second_of_three a b x y z e f = rw (e, f) refl
+
+third_of_three : (a b : Bool) (x y z : Read) → a ≡ false → b ≡ false → cond a x (cond b y z) ≡ z
+third_of_three a b x y z e f = rw (e, f) refl
+
+pub root_deep : (row : Row) (rows : List Row) → 0 < row_indentation row → root_at row rows ≡ Err (fault.Line row.line why.Indent)
+root_deep row rows lt = first_of_three (ltb 0 (row_indentation row)) (is_flow row.bytes) (wrong row.line why.Indent) (flow_on 64 row.bytes row rows) (block_at (value_on 63) row rows) (lt-ltb _ _ lt)
+
+pub root_flow : (row : Row) (rows : List Row) → row_indentation row ≤ 0 → is_flow row.bytes ≡ true → root_at row rows ≡ flow_on 64 row.bytes row rows
+root_flow row rows le is = second_of_three (ltb 0 (row_indentation row)) (is_flow row.bytes) (wrong row.line why.Indent) (flow_on 64 row.bytes row rows) (block_at (value_on 63) row rows) (le-ltb _ _ le) is
+
+pub root_block : (row : Row) (rows : List Row) → row_indentation row ≤ 0 → is_flow row.bytes ≡ false → root_at row rows ≡ block_at (value_on 63) row rows
+root_block row rows le is = third_of_three (ltb 0 (row_indentation row)) (is_flow row.bytes) (wrong row.line why.Indent) (flow_on 64 row.bytes row rows) (block_at (value_on 63) row rows) (le-ltb _ _ le) is
