@@ -15,6 +15,10 @@ pub mod BlockLaw
 pub mod ValueLaw
 pub mod PrintedUtf8
 pub mod ReadBack
+pub mod Indentations
+pub mod LineEnds
+pub mod Headers
+pub mod Filling
 pub mod Tests
 pub mod Cutting
 pub mod Spacing
@@ -22,8 +26,12 @@ pub mod Plains
 pub mod Quotes
 pub mod Escaping
 pub mod KeyLists
+pub mod Fewer
+pub mod Blocking
+pub mod Views
 pub mod Failing
 pub mod Shrinking
 pub mod Rounds
 pub mod Flows
 pub mod Steps
+pub mod Exits

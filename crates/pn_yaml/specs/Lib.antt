@@ -13,8 +13,11 @@ pub mod Samples
 pub mod PrintedSamples
 pub mod PlainRun
 pub mod Levels
+pub mod Cursor
 pub mod Cuts
 pub mod Reading
 pub mod Escapes
 pub mod KeySets
 pub mod FlowSteps
+pub mod Literals
+pub mod BlockSteps

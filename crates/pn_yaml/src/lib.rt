@@ -1,6 +1,7 @@
 //! A subset of YAML 1.2: block maps and lists, flow values on one line, quoted and plain scalars.
 #![tactic(auto)]
 
+mod block;
 mod escape;
 mod fault;
 mod laws;
@@ -11,11 +12,17 @@ mod print_flow;
 mod scalar;
 mod word;
 mod flow;
+mod indent;
 mod keys;
 mod plain;
 mod quoted;
+mod line;
+mod literal;
+mod reading;
+mod rows;
 mod spaces;
 mod split;
+mod value;
 
 pub use fault::{Why, YamlFault};
 pub use laws::{print_law, read_law};
@@ -24,6 +31,10 @@ pub use print_block::print;
 
 #[cfg(test)]
 mod print_tests;
+pub use reading::read;
 
 #[cfg(test)]
 mod flow_tests;
+
+#[cfg(test)]
+mod read_tests;
