@@ -1,40 +1,41 @@
-//! A subset of YAML 1.2: block maps and lists, flow values on one line, quoted and plain scalars.
+//! A subset of YAML 1.2, read and printed: block maps and lists, flow values on one line, quoted and plain scalars.
+//!
+//! What bytes say is a definition, `says`: data, or the first line at fault. `read` answers exactly that. `print` writes
+//! one text of a map, and what it writes is read as the same map, each scalar plain where it was printed plain.
 #![tactic(auto)]
 
 mod block;
 mod escape;
 mod fault;
-mod laws;
-mod level;
-mod node;
-mod print_block;
-mod print_flow;
-mod scalar;
-mod word;
 mod flow;
 mod indent;
 mod keys;
-mod plain;
-mod quoted;
+mod laws;
+mod level;
 mod line;
 mod literal;
+mod node;
+mod plain;
+mod print_block;
+mod print_flow;
+mod quoted;
 mod reading;
 mod rows;
+mod scalar;
 mod spaces;
 mod split;
 mod value;
+mod word;
 
 pub use fault::{Why, YamlFault};
 pub use laws::{print_law, read_law};
 pub use node::{Node, Scalar};
 pub use print_block::print;
-
-#[cfg(test)]
-mod print_tests;
 pub use reading::read;
 
 #[cfg(test)]
 mod flow_tests;
-
+#[cfg(test)]
+mod print_tests;
 #[cfg(test)]
 mod read_tests;
