@@ -18,3 +18,4 @@ pub mod Shrinking
 pub mod Rounds
 pub mod Flows
 pub mod Steps
+pub mod Texts
