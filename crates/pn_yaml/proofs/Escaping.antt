@@ -31,7 +31,7 @@ last_chosen line value rest b None = refl
 last_chosen line value rest b (Some d) =
     let done : Digit = Ok (value * 16 + d, rest) in
     elim (is_surrogate (value * 16 + d)) as (λ v. turned line (if v then bad else go (encode_utf8 (value * 16 + d)) double) (λ t. quoted_at line t rest) b rest
-        ≡ (if v then wrong line why.Escape else done) >>= with_char line) [
+    ≡ (if v then wrong line why.Escape else done) >>= with_char line) [
       | true ↦ refl
       | false ↦ refl
     ]
@@ -69,8 +69,8 @@ unfolding two_at
 two_digits line value text =
     first_digit line 2 value text (λ d. refl)
     ∙ then_alike (digit_at line text) (λ a. quoted_at line (digits 1 (value * 16 + a.0)) a.1)
-        (λ a. ((digit_at line a.1 >>= λ b. Ok ((value * 16 + a.0) * 16 + b.0, b.1)) >>= λ v. character line v.0 v.1) >>= with_char line)
-        (λ a. last_digit line (value * 16 + a.0) a.1 ∙ ap (λ (r : Result (ℕ × List ℕ) YamlFault). r >>= with_char line) (sym (then_then (digit_at line a.1) (λ b. Ok ((value * 16 + a.0) * 16 + b.0, b.1)) (λ v. character line v.0 v.1))))
+    (λ a. ((digit_at line a.1 >>= λ b. Ok ((value * 16 + a.0) * 16 + b.0, b.1)) >>= λ v. character line v.0 v.1) >>= with_char line)
+    (λ a. last_digit line (value * 16 + a.0) a.1 ∙ ap (λ (r : Result (ℕ × List ℕ) YamlFault). r >>= with_char line) (sym (then_then (digit_at line a.1) (λ b. Ok ((value * 16 + a.0) * 16 + b.0, b.1)) (λ v. character line v.0 v.1))))
     ∙ sym (then_then (digit_at line text) (λ a. (digit_at line a.1 >>= λ b. Ok ((value * 16 + a.0) * 16 + b.0, b.1)) >>= λ v. character line v.0 v.1) (with_char line))
     ∙ ap (λ (r : Result (ℕ × List ℕ) YamlFault). r >>= with_char line) (sym (then_then (digit_at line text) (λ a. digit_at line a.1 >>= λ b. Ok ((value * 16 + a.0) * 16 + b.0, b.1)) (λ v. character line v.0 v.1)))
 
@@ -79,25 +79,25 @@ unfolding two_at
 four_digits line value text =
     first_digit line 4 value text (λ d. refl)
     ∙ then_alike (digit_at line text) (λ a. quoted_at line (digits 3 (value * 16 + a.0)) a.1)
-        (λ a. (digit_at line a.1 >>= λ b. Ok ((value * 16 + a.0) * 16 + b.0, b.1)) >>= λ v. quoted_at line (digits 2 v.0) v.1)
-        (λ a. first_digit line 3 (value * 16 + a.0) a.1 (λ d. refl) ∙ sym (then_then (digit_at line a.1) (λ b. Ok ((value * 16 + a.0) * 16 + b.0, b.1)) (λ v. quoted_at line (digits 2 v.0) v.1)))
+    (λ a. (digit_at line a.1 >>= λ b. Ok ((value * 16 + a.0) * 16 + b.0, b.1)) >>= λ v. quoted_at line (digits 2 v.0) v.1)
+    (λ a. first_digit line 3 (value * 16 + a.0) a.1 (λ d. refl) ∙ sym (then_then (digit_at line a.1) (λ b. Ok ((value * 16 + a.0) * 16 + b.0, b.1)) (λ v. quoted_at line (digits 2 v.0) v.1)))
     ∙ sym (then_then (digit_at line text) (λ a. digit_at line a.1 >>= λ b. Ok ((value * 16 + a.0) * 16 + b.0, b.1)) (λ v. quoted_at line (digits 2 v.0) v.1))
 
 code_read : (line b : ℕ) (rest : List ℕ) → turned line (on_some (digits_behind b) (λ n. go [] (digits n 0)) bad) (λ t. quoted_at line t rest) b rest ≡ code_at line b rest >>= with_char line
 unfolding code_at
 code_read line b rest =
     elim (b == 120) as (λ v. turned line (on_some (if v then Some 2 else if b == 117 then Some 4 else None) (λ n. go [] (digits n 0)) bad) (λ t. quoted_at line t rest) b rest
-        ≡ (if v then two_at line 0 rest >>= (λ v. character line v.0 v.1)
-        else if b == 117 then two_at line 0 rest >>= (λ v. two_at line v.0 v.1 >>= λ w. character line w.0 w.1)
-        else wrong line why.Escape) >>= with_char line) [
+    ≡ (if v then two_at line 0 rest >>= (λ v. character line v.0 v.1)
+    else if b == 117 then two_at line 0 rest >>= (λ v. two_at line v.0 v.1 >>= λ w. character line w.0 w.1)
+    else wrong line why.Escape) >>= with_char line) [
       | true ↦ with_none line (digits 2 0) rest ∙ two_digits line 0 rest
       | false ↦ elim (b == 117) as (λ v. turned line (on_some (if v then Some 4 else None) (λ n. go [] (digits n 0)) bad) (λ t. quoted_at line t rest) b rest
-            ≡ (if v then two_at line 0 rest >>= (λ v. two_at line v.0 v.1 >>= λ w. character line w.0 w.1) else wrong line why.Escape) >>= with_char line) [
-          | true ↦ with_none line (digits 4 0) rest ∙ four_digits line 0 rest
-              ∙ then_alike (two_at line 0 rest) (λ v. quoted_at line (digits 2 v.0) v.1) (λ v. (two_at line v.0 v.1 >>= λ w. character line w.0 w.1) >>= with_char line) (λ v. two_digits line v.0 v.1)
-              ∙ sym (then_then (two_at line 0 rest) (λ v. two_at line v.0 v.1 >>= λ w. character line w.0 w.1) (with_char line))
-          | false ↦ refl
-        ]
+          ≡ (if v then two_at line 0 rest >>= (λ v. two_at line v.0 v.1 >>= λ w. character line w.0 w.1) else wrong line why.Escape) >>= with_char line) [
+            | true ↦ with_none line (digits 4 0) rest ∙ four_digits line 0 rest
+                ∙ then_alike (two_at line 0 rest) (λ v. quoted_at line (digits 2 v.0) v.1) (λ v. (two_at line v.0 v.1 >>= λ w. character line w.0 w.1) >>= with_char line) (λ v. two_digits line v.0 v.1)
+                ∙ sym (then_then (two_at line 0 rest) (λ v. two_at line v.0 v.1 >>= λ w. character line w.0 w.1) (with_char line))
+            | false ↦ refl
+          ]
     ]
 
 -- an escape of one byte stands for an ASCII byte
@@ -121,15 +121,15 @@ escape_one b =
     elim ((b == 92) || (b == 34) || (b == 47)) as (λ v. ((b == 92) || (b == 34) || (b == 47)) ≡ v → IsOne (if v then Some b else if b == 110 then Some 10 else if b == 116 then Some 9 else if b == 114 then Some 13 else if b == 48 then Some 0 else None)) [
       | true ↦ λ e. same_one b e
       | false ↦ λ e. elim (b == 110) as (λ v. IsOne (if v then Some 10 else if b == 116 then Some 9 else if b == 114 then Some 13 else if b == 48 then Some 0 else None)) [
+        | true ↦ refl
+        | false ↦ elim (b == 116) as (λ v. IsOne (if v then Some 9 else if b == 114 then Some 13 else if b == 48 then Some 0 else None)) [
           | true ↦ refl
-          | false ↦ elim (b == 116) as (λ v. IsOne (if v then Some 9 else if b == 114 then Some 13 else if b == 48 then Some 0 else None)) [
-              | true ↦ refl
-              | false ↦ elim (b == 114) as (λ v. IsOne (if v then Some 13 else if b == 48 then Some 0 else None)) [
-                  | true ↦ refl
-                  | false ↦ elim (b == 48) as (λ v. IsOne (if v then Some 0 else None)) [ true ↦ refl | false ↦ tt ]
-                ]
-            ]
+          | false ↦ elim (b == 114) as (λ v. IsOne (if v then Some 13 else if b == 48 then Some 0 else None)) [
+            | true ↦ refl
+            | false ↦ elim (b == 48) as (λ v. IsOne (if v then Some 0 else None)) [ true ↦ refl | false ↦ tt ]
+          ]
         ]
+      ]
     ] refl
 
 byte_read : (line b : ℕ) (rest : List ℕ) (o : Option ℕ) → IsOne o

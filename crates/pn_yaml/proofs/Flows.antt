@@ -22,13 +22,13 @@ use Rattle.pn_yaml.proofs.Shrinking.{Within, tail_within, unindented_within, wit
 
 round_is : {A D : Type 0} (line close : ℕ) (end : A) (one : List ℕ → Reads D) (put : D → Reads A → Reads A) (more : D → List ℕ → Reads A) (text : List ℕ)
     → (if is_bare text then wrong line why.Flow else if starts close (unindented text) then Ok (end, tail_of (unindented text))
-        else one (unindented text) >>= λ v. put v.0 (behind_value line close end (more v.0) (unindented v.1)))
+    else one (unindented text) >>= λ v. put v.0 (behind_value line close end (more v.0) (unindented v.1)))
     ≡ round line close end one put more text
 round_is {A} {D} line close end one put more text =
     let now : List ℕ → Reads A = λ front. one front >>= λ v. put v.0 (behind_value line close end (more v.0) (unindented v.1)) in
     let on : List ℕ → Reads A = λ front. one front >>= one_more line close end put more in
     let alike : (front : List ℕ) → now front ≡ on front = λ front. then_alike (one front) (λ v. put v.0 (behind_value line close end (more v.0) (unindented v.1))) (one_more line close end put more)
-        (λ v. ap (λ (r : Reads A). put v.0 r) (behind_is line close end (more v.0) v.1)) in
+    (λ v. ap (λ (r : Reads A). put v.0 r) (behind_is line close end (more v.0) v.1)) in
     before_is line close end now text
     ∙ then_alike (before_step line close text) (goes end now) (goes end on)
     (λ s. elim s.0 as (λ v. (if◌then◌else◌ {A = Reads A} v (Ok (end, s.1)) (now s.1)) ≡ (if◌then◌else◌ {A = Reads A} v (Ok (end, s.1)) (on s.1))) [ true ↦ refl | false ↦ alike s.1 ])
@@ -189,7 +189,7 @@ key_word value line seen (Ok k) =
     let got : Reads (List ℕ) = Ok (k.0.text, tail_of k.1) in
     let made : Reads Entry = flow_value value line (tail_of k.1) >>= λ v. Ok ((k.0.text, v.0), v.1) in
     elim (is_colon k.1) as (λ v. (if not v then wrong line why.Flow else if is_among k.0.text seen then wrong line why.Twice else made)
-        ≡ (if not v then wrong line why.Flow else if is_among k.0.text seen then wrong line why.Twice else got) >>= keyed value line) [
+    ≡ (if not v then wrong line why.Flow else if is_among k.0.text seen then wrong line why.Twice else got) >>= keyed value line) [
       | true ↦ elim (is_among k.0.text seen) as (λ v. (if v then wrong line why.Twice else made) ≡ (if v then wrong line why.Twice else got) >>= keyed value line) [ true ↦ refl | false ↦ refl ]
       | false ↦ refl
     ]
@@ -296,9 +296,9 @@ items_within value h line (suc steps) text = subst (λ (r : Reads Items). Within
 
 value_within : (value : Reader) → Shrinks value → (line : ℕ) (text : List ℕ) → Within (length text) (flow_value value line text)
 value_within value h line text = elim (is_bare text) as (λ v. Within (length text) (if◌then◌else◌ {A = Reads Data} v (wrong line why.Flow) (value (unindented text)))) [
-    | true ↦ tt
-    | false ↦ within_more (length (unindented text)) (length text) (value (unindented text)) (unindented_within text) (h (unindented text))
-    ]
+  | true ↦ tt
+  | false ↦ within_more (length (unindented text)) (length text) (value (unindented text)) (unindented_within text) (h (unindented text))
+]
 
 key_within : (line : ℕ) (seen : List (List ℕ)) (text : List ℕ) → Within (length text) (flow_key line seen text)
 key_within line seen text =
@@ -327,14 +327,14 @@ flow_within (suc levels) line text =
     let word : Reads Data = word_at place.Flow line text >>= λ w. Ok (scalar w.0.text w.0.plain, w.1) in
     let rest = tail_of text in
     elim (starts 91 text) as (λ v. Within (length text) (if v then list_in (flow_items (flow_at levels line) line (length text) (tail_of text))
-        else if starts 123 text then map_in (flow_members (flow_at levels line) line (length text) [] (tail_of text)) else word)) [
+    else if starts 123 text then map_in (flow_members (flow_at levels line) line (length text) [] (tail_of text)) else word)) [
       | true ↦ list_within (length text) (flow_items (flow_at levels line) line (length text) rest)
           (within_more (length rest) (length text) (flow_items (flow_at levels line) line (length text) rest) (tail_within text) (items_within (flow_at levels line) (flow_within levels line) line (length text) rest))
       | false ↦ elim (starts 123 text) as (λ v. Within (length text) (if v then map_in (flow_members (flow_at levels line) line (length text) [] (tail_of text)) else word)) [
-          | true ↦ map_within (length text) (flow_members (flow_at levels line) line (length text) [] rest)
-              (within_more (length rest) (length text) (flow_members (flow_at levels line) line (length text) [] rest) (tail_within text) (members_within (flow_at levels line) (flow_within levels line) line (length text) [] rest))
-          | false ↦ within_then (length text) (length text) (word_at place.Flow line text) (λ w. Ok (scalar w.0.text w.0.plain, w.1)) (word_within place.Flow line text) (λ w l. l)
-        ]
+        | true ↦ map_within (length text) (flow_members (flow_at levels line) line (length text) [] rest)
+            (within_more (length rest) (length text) (flow_members (flow_at levels line) line (length text) [] rest) (tail_within text) (members_within (flow_at levels line) (flow_within levels line) line (length text) [] rest))
+        | false ↦ within_then (length text) (length text) (word_at place.Flow line text) (λ w. Ok (scalar w.0.text w.0.plain, w.1)) (word_within place.Flow line text) (λ w l. l)
+      ]
     ]
 
 pub value_shorter : (levels line : ℕ) (text : List ℕ) → Within (length text) (flow_value (flow_at levels line) line text)

@@ -19,3 +19,4 @@ pub mod Rounds
 pub mod Flows
 pub mod Steps
 pub mod Texts
+pub mod NodeViews

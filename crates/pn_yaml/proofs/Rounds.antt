@@ -28,26 +28,26 @@ round line close end one put more text = before_step line close text >>= goes en
 pub behind_is : {A : Type 0} (line close : ℕ) (end : A) (more : List ℕ → Reads A) (text : List ℕ) → behind_value line close end more (unindented text) ≡ behind_step line close text >>= goes end more
 behind_is {A} line close end more text =
     elim (starts 44 (unindented text)) as (λ v. (if v then more (tail_of (unindented text)) else if starts close (unindented text) then Ok (end, tail_of (unindented text)) else wrong line why.Flow)
-        ≡ (if◌then◌else◌ {A = Reads Bool} v (Ok (false, tail_of (unindented text))) (if starts close (unindented text) then Ok (true, tail_of (unindented text)) else wrong line why.Flow)) >>= goes end more) [
+    ≡ (if◌then◌else◌ {A = Reads Bool} v (Ok (false, tail_of (unindented text))) (if starts close (unindented text) then Ok (true, tail_of (unindented text)) else wrong line why.Flow)) >>= goes end more) [
       | true ↦ refl
       | false ↦ elim (starts close (unindented text)) as (λ v. (if◌then◌else◌ {A = Reads A} v (Ok (end, tail_of (unindented text))) (wrong line why.Flow))
-            ≡ (if◌then◌else◌ {A = Reads Bool} v (Ok (true, tail_of (unindented text))) (wrong line why.Flow)) >>= goes end more) [
-          | true ↦ refl
-          | false ↦ refl
-        ]
+          ≡ (if◌then◌else◌ {A = Reads Bool} v (Ok (true, tail_of (unindented text))) (wrong line why.Flow)) >>= goes end more) [
+            | true ↦ refl
+            | false ↦ refl
+          ]
     ]
 
 pub before_is : {A : Type 0} (line close : ℕ) (end : A) (more : List ℕ → Reads A) (text : List ℕ)
     → (if is_bare text then wrong line why.Flow else if starts close (unindented text) then Ok (end, tail_of (unindented text)) else more (unindented text)) ≡ before_step line close text >>= goes end more
 before_is {A} line close end more text =
     elim (is_bare text) as (λ v. (if◌then◌else◌ {A = Reads A} v (wrong line why.Flow) (if starts close (unindented text) then Ok (end, tail_of (unindented text)) else more (unindented text)))
-        ≡ (if◌then◌else◌ {A = Reads Bool} v (wrong line why.Flow) (if starts close (unindented text) then Ok (true, tail_of (unindented text)) else Ok (false, unindented text))) >>= goes end more) [
+    ≡ (if◌then◌else◌ {A = Reads Bool} v (wrong line why.Flow) (if starts close (unindented text) then Ok (true, tail_of (unindented text)) else Ok (false, unindented text))) >>= goes end more) [
       | true ↦ refl
       | false ↦ elim (starts close (unindented text)) as (λ v. (if◌then◌else◌ {A = Reads A} v (Ok (end, tail_of (unindented text))) (more (unindented text)))
-            ≡ (if◌then◌else◌ {A = Reads Bool} v (Ok (true, tail_of (unindented text))) (Ok (false, unindented text))) >>= goes end more) [
-          | true ↦ refl
-          | false ↦ refl
-        ]
+          ≡ (if◌then◌else◌ {A = Reads Bool} v (Ok (true, tail_of (unindented text))) (Ok (false, unindented text))) >>= goes end more) [
+            | true ↦ refl
+            | false ↦ refl
+          ]
     ]
 
 pub then_alike : {A B : Type 0} (r : Reads A) (f g : A × List ℕ → Reads B) → ((x : A × List ℕ) → f x ≡ g x) → (r >>= f) ≡ (r >>= g)
@@ -80,9 +80,9 @@ before_within line close text =
     elim (is_bare text) as (λ v. Within (length text) (if◌then◌else◌ {A = Reads Bool} v (wrong line why.Flow) (if starts close (unindented text) then Ok (true, tail_of (unindented text)) else Ok (false, unindented text)))) [
       | true ↦ tt
       | false ↦ elim (starts close (unindented text)) as (λ v. Within (length text) (if◌then◌else◌ {A = Reads Bool} v (Ok (true, tail_of (unindented text))) (Ok (false, unindented text)))) [
-          | true ↦ omega (arith, tail_within (unindented text), unindented_within text)
-          | false ↦ unindented_within text
-        ]
+        | true ↦ omega (arith, tail_within (unindented text), unindented_within text)
+        | false ↦ unindented_within text
+      ]
     ]
 
 pub behind_within : (line close : ℕ) (text : List ℕ) → Within (length text) (behind_step line close text)
@@ -90,9 +90,9 @@ behind_within line close text =
     elim (starts 44 (unindented text)) as (λ v. Within (length text) (if◌then◌else◌ {A = Reads Bool} v (Ok (false, tail_of (unindented text))) (if starts close (unindented text) then Ok (true, tail_of (unindented text)) else wrong line why.Flow))) [
       | true ↦ omega (arith, tail_within (unindented text), unindented_within text)
       | false ↦ elim (starts close (unindented text)) as (λ v. Within (length text) (if◌then◌else◌ {A = Reads Bool} v (Ok (true, tail_of (unindented text))) (wrong line why.Flow))) [
-          | true ↦ omega (arith, tail_within (unindented text), unindented_within text)
-          | false ↦ tt
-        ]
+        | true ↦ omega (arith, tail_within (unindented text), unindented_within text)
+        | false ↦ tt
+      ]
     ]
 
 shorter : (text : List ℕ) → starts 44 text ≡ true → length (tail_of text) < length text
@@ -109,12 +109,12 @@ ok_is x y e = cc
 pub comma_shorter : (line close : ℕ) (text more : List ℕ) → behind_step line close text ≡ Ok (false, more) → length more < length text
 comma_shorter line close text more e =
     elim (starts 44 (unindented text)) as (λ v. starts 44 (unindented text) ≡ v
-        → (if◌then◌else◌ {A = Reads Bool} v (Ok (false, tail_of (unindented text))) (if starts close (unindented text) then Ok (true, tail_of (unindented text)) else wrong line why.Flow)) ≡ Ok (false, more) → length more < length text) [
+    → (if◌then◌else◌ {A = Reads Bool} v (Ok (false, tail_of (unindented text))) (if starts close (unindented text) then Ok (true, tail_of (unindented text)) else wrong line why.Flow)) ≡ Ok (false, more) → length more < length text) [
       | true ↦ λ s f. let same : tail_of (unindented text) ≡ more = ap (λ (p : Bool × List ℕ). p.1) (ok_is (false, tail_of (unindented text)) (false, more) f) in omega (arith, ap (λ (t : List ℕ). length t) same, shorter (unindented text) s, unindented_within text)
       | false ↦ λ s. elim (starts close (unindented text)) as (λ v. (if◌then◌else◌ {A = Reads Bool} v (Ok (true, tail_of (unindented text))) (wrong line why.Flow)) ≡ Ok (false, more) → length more < length text) [
-          | true ↦ λ f. let h : true ≡ false = ap (λ (p : Bool × List ℕ). p.0) (ok_is (true, tail_of (unindented text)) (false, more) f) in absurd cc
-          | false ↦ λ f. absurd cc
-        ]
+        | true ↦ λ f. let h : true ≡ false = ap (λ (p : Bool × List ℕ). p.0) (ok_is (true, tail_of (unindented text)) (false, more) f) in absurd cc
+        | false ↦ λ f. absurd cc
+      ]
     ] refl e
 
 pub round_within : {A D : Type 0} (line close : ℕ) (end : A) (one : List ℕ → Reads D) (put : D → Reads A → Reads A) (more : D → List ℕ → Reads A) (text : List ℕ)
@@ -123,7 +123,7 @@ pub round_within : {A D : Type 0} (line close : ℕ) (end : A) (one : List ℕ �
 round_within {A} {D} line close end one put more text ones puts mores =
     let n = length text in
     let going : (f : List ℕ → Reads A) → ((t : List ℕ) → length t ≤ n → Within n (f t)) → (s : Bool × List ℕ) → length s.1 ≤ n → Within n (goes end f s) =
-        λ f h s l. elim s.0 as (λ v. Within n (if v then Ok (end, s.1) else f s.1)) [ true ↦ l | false ↦ h s.1 l ] in
+    λ f h s l. elim s.0 as (λ v. Within n (if v then Ok (end, s.1) else f s.1)) [ true ↦ l | false ↦ h s.1 l ] in
     within_then n n (before_step line close text) (goes end (λ front. one front >>= one_more line close end put more)) (before_within line close text)
     (going (λ front. one front >>= one_more line close end put more)
     (λ front l. within_then n n (one front) (one_more line close end put more) (within_more (length front) n (one front) l (ones front))

@@ -29,9 +29,9 @@ within_ok {A} n r x rest h e = subst (λ (s : Result (A × List ℕ) YamlFault).
 pub unindented_within : (text : List ℕ) → length (unindented text) ≤ length text
 unindented_within [] = omega arith
 unindented_within (b ∷ rest) = elim (b == 32) as (λ v. length (if v then unindented rest else b ∷ rest) ≤ suc (length rest)) [
-    | true ↦ let l = unindented_within rest in omega (arith, unindented_within rest)
-    | false ↦ omega arith
-    ]
+  | true ↦ let l = unindented_within rest in omega (arith, unindented_within rest)
+  | false ↦ omega arith
+]
 
 pub tail_within : (text : List ℕ) → length (tail_of text) ≤ length text
 tail_within [] = omega arith
@@ -53,9 +53,9 @@ two_within line value text =
 
 character_within : (line code : ℕ) (rest : List ℕ) → Within (length rest) (character line code rest)
 character_within line code rest = elim (is_surrogate code) as (λ v. Within (length rest) (if◌then◌else◌ {A = Result (ℕ × List ℕ) YamlFault} v (wrong line why.Escape) (Ok (code, rest)))) [
-    | true ↦ tt
-    | false ↦ omega arith
-    ]
+  | true ↦ tt
+  | false ↦ omega arith
+]
 
 then_character : (line n : ℕ) (v : ℕ × List ℕ) → length v.1 ≤ n → Within n (character line v.0 v.1)
 then_character line n v l = within_more (length v.1) n (character line v.0 v.1) l (character_within line v.0 v.1)
@@ -65,14 +65,14 @@ unfolding code_at
 code_within line b text =
     let n = length text in
     elim (b == 120) as (λ v. Within (length text) (if v then two_at line 0 text >>= (λ v. character line v.0 v.1)
-        else if b == 117 then two_at line 0 text >>= (λ v. two_at line v.0 v.1 >>= λ w. character line w.0 w.1)
-        else wrong line why.Escape)) [
+    else if b == 117 then two_at line 0 text >>= (λ v. two_at line v.0 v.1 >>= λ w. character line w.0 w.1)
+    else wrong line why.Escape)) [
       | true ↦ within_then n n (two_at line 0 text) (λ v. character line v.0 v.1) (two_within line 0 text) (λ v l. then_character line n v l)
       | false ↦ elim (b == 117) as (λ v. Within (length text) (if v then two_at line 0 text >>= (λ v. two_at line v.0 v.1 >>= λ w. character line w.0 w.1) else wrong line why.Escape)) [
-          | true ↦ within_then n n (two_at line 0 text) (λ v. two_at line v.0 v.1 >>= λ w. character line w.0 w.1) (two_within line 0 text)
-              (λ v l. within_then (length v.1) n (two_at line v.0 v.1) (λ w. character line w.0 w.1) (two_within line v.0 v.1) (λ w m. then_character line n w (omega arith)))
-          | false ↦ tt
-        ]
+        | true ↦ within_then n n (two_at line 0 text) (λ v. two_at line v.0 v.1 >>= λ w. character line w.0 w.1) (two_within line 0 text)
+            (λ v l. within_then (length v.1) n (two_at line v.0 v.1) (λ w. character line w.0 w.1) (two_within line v.0 v.1) (λ w m. then_character line n w (omega arith)))
+        | false ↦ tt
+      ]
     ]
 
 escape_chosen : (line b : ℕ) (rest : List ℕ) (o : Option ℕ) → Within (length rest) (on_some {A = ℕ} {B = Result (ℕ × List ℕ) YamlFault} o (λ c. Ok (c, rest)) (code_at line b rest))
@@ -87,9 +87,9 @@ escape_within line (b ∷ rest) = within_more (length rest) (suc (length rest)) 
 rest_within : (p : Place) (text : List ℕ) → length (plain_rest p text) ≤ length text
 rest_within p [] = omega arith
 rest_within p (b ∷ rest) = elim (ends_plain p (b ∷ rest)) as (λ v. length (if v then b ∷ rest else plain_rest p rest) ≤ suc (length rest)) [
-    | true ↦ omega arith
-    | false ↦ omega (arith, rest_within p rest)
-    ]
+  | true ↦ omega arith
+  | false ↦ omega (arith, rest_within p rest)
+]
 
 plain_word_within : (p : Place) (line : ℕ) (word rest : List ℕ) → Within (length rest) (plain_word p line word rest)
 plain_word_within p line word rest =
@@ -125,7 +125,7 @@ word_within p line text =
     elim (starts 39 text) as (λ v. Within (length text) (if v then quoted_at line single (tail_of text) else if starts 34 text then quoted_at line double (tail_of text) else plain_at p line text)) [
       | true ↦ within_more (length (tail_of text)) (length text) (quoted_at line single (tail_of text)) (tail_within text) (quoted_within line single (tail_of text))
       | false ↦ elim (starts 34 text) as (λ v. Within (length text) (if v then quoted_at line double (tail_of text) else plain_at p line text)) [
-          | true ↦ within_more (length (tail_of text)) (length text) (quoted_at line double (tail_of text)) (tail_within text) (quoted_within line double (tail_of text))
-          | false ↦ within_more (length (plain_rest p text)) (length text) (plain_at p line text) (rest_within p text) (plain_word_within p line (trimmed (plain_front p text)) (plain_rest p text))
-        ]
+        | true ↦ within_more (length (tail_of text)) (length text) (quoted_at line double (tail_of text)) (tail_within text) (quoted_within line double (tail_of text))
+        | false ↦ within_more (length (plain_rest p text)) (length text) (plain_at p line text) (rest_within p text) (plain_word_within p line (trimmed (plain_front p text)) (plain_rest p text))
+      ]
     ]

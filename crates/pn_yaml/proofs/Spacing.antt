@@ -14,9 +14,9 @@ unindented_more text rest e = ap unindented e
 blank_space : (front : List ℕ) → is_blank (front ++ 32 ∷ []) ≡ is_blank front
 blank_space [] = refl
 blank_space (b ∷ front) = elim (b == 32) as (λ v. is_empty (if v then unindented (front ++ 32 ∷ []) else b ∷ (front ++ 32 ∷ [])) ≡ is_empty (if v then unindented front else b ∷ front)) [
-    | true ↦ blank_space front
-    | false ↦ refl
-    ]
+  | true ↦ blank_space front
+  | false ↦ refl
+]
 
 trimmed_space : (front : List ℕ) → trimmed (front ++ 32 ∷ []) ≡ trimmed front
 trimmed_space [] = refl
@@ -27,9 +27,9 @@ trimmed_space (b ∷ front) =
 full : (front : List ℕ) (b : ℕ) → (b == 32) ≡ false → is_blank (front ++ b ∷ []) ≡ false
 full [] b e = ap (λ (v : Bool). is_empty (if v then [] else b ∷ [])) e
 full (a ∷ front) b e = elim (a == 32) as (λ v. is_empty (if v then unindented (front ++ b ∷ []) else a ∷ (front ++ b ∷ [])) ≡ false) [
-    | true ↦ full front b e
-    | false ↦ refl
-    ]
+  | true ↦ full front b e
+  | false ↦ refl
+]
 
 trimmed_whole : (front : List ℕ) (b : ℕ) → (b == 32) ≡ false → trimmed (front ++ b ∷ []) ≡ front ++ b ∷ []
 trimmed_whole [] b e = ap (λ (v : Bool). if v then [] else b ∷ []) (full [] b e)

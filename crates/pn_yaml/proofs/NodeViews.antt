@@ -1,0 +1,12 @@
+-- What lists and maps stand for, one level down.
+use Rattle.std.proofs.Common.{◌≡◌, ℕ, List, rules}
+use Rattle.pn_yaml.specs.Data.{list, map}
+use Rattle.pn_yaml.specs.View.{items_view, members_view, view}
+use Rattle.pn_yaml.specs.declared.node.Node.{Node, the_lemmas}
+use Rattle.pn_yaml.specs.declared.node.Node.TheVariants as node
+
+pub view-List : (ns : List Node) → view (node.List ns) ≡ list (items_view ns)
+view-List ns = search (rules, the_lemmas)
+
+pub view-Map : (ms : List (List ℕ × Node)) → view (node.Map ms) ≡ map (members_view ms)
+view-Map ms = search (rules, the_lemmas)
