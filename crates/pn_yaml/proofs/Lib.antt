@@ -1,7 +1,7 @@
 pub mod Indentations
 pub mod LineEnds
 pub mod Headers
-pub mod Outcomes
+pub mod Exits
 pub mod Filling
 pub mod Tests
 pub mod Cutting

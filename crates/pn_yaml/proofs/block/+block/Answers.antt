@@ -16,7 +16,7 @@ use Rattle.pn_yaml.specs.View.{view}
 use Rattle.pn_yaml.proofs.Blocking.{ItemsLeft, MembersLeft, items_begin, items_stop, items_end, items_fail, items_more, members_begin, members_stop, members_deep, members_end, key_fail, value_fail, members_more, value_bare, value_block_at, value_scalar_at}
 use Rattle.pn_yaml.proofs.Fewer.{value_leaves, leaves_ok}
 use Rattle.pn_yaml.proofs.NodeViews.{view-List, view-Map}
-use Rattle.pn_yaml.proofs.Outcomes.{exit_gives, fails_on}
+use Rattle.pn_yaml.proofs.Exits.{exit_gives, fails_on}
 use Rattle.pn_yaml.proofs.Views.{views, member_views, views_push, member_views_push, seen_of_push}
 use Rattle.pn_yaml.proofs.block.+block.Goals as goal
 

@@ -5,7 +5,7 @@ use Rattle.pn_yaml.specs.Bytes.{indentation}
 use Rattle.pn_yaml.specs.Cursor.{rows_left, row_of, rows_ahead}
 use Rattle.pn_yaml.specs.Rows.{Row}
 use Rattle.pn_yaml.proofs.Indentations.{drop_indentation}
-use Rattle.pn_yaml.proofs.Outcomes.{exit_gives, same_outcome}
+use Rattle.pn_yaml.proofs.Exits.{exit_gives, same_outcome}
 use Rattle.pn_yaml.proofs.Filling.{joined_end, joined_stop, joined_more}
 use Rattle.pn_yaml.proofs.literal.joined.Goals as goal
 

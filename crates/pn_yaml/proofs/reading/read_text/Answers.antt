@@ -5,7 +5,7 @@ use Rattle.pn_yaml.specs.Blocks.{alone, root_at, text_says}
 use Rattle.pn_yaml.specs.Cursor.{node_ahead, row_of, rows_ahead, rows_left}
 use Rattle.pn_yaml.specs.Rows.{first_ahead}
 use Rattle.pn_yaml.specs.View.{view}
-use Rattle.pn_yaml.proofs.Outcomes.{exit_gives, fails_on}
+use Rattle.pn_yaml.proofs.Exits.{exit_gives, fails_on}
 use Rattle.pn_yaml.proofs.Texts.{text_from, alone_fails, alone_ok, alone_left}
 use Rattle.pn_yaml.proofs.reading.read_text.Goals as goal
 
