@@ -27,4 +27,4 @@ pub use reading::read;
 mod flow_tests;
 
 #[cfg(test)]
-mod tests;
+mod read_tests;
