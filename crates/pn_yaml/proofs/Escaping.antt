@@ -1,16 +1,15 @@
 -- Escapes in double quotes, each in one step.
-use Rattle.std.proofs.Common.{◌≡◌, ℕ, ◌+◌, ◌-◌, ◌*◌, ◌≤◌, arith, List, [], ◌∷◌, ◌++◌, Bool, true, false, Option, Some, None, Result, Ok, Err, refl, sym, ap, subst, ◌∙◌}
+use Rattle.std.proofs.Common.{◌≡◌, ℕ, ◌+◌, ◌-◌, ◌*◌, ◌≤◌, arith, List, [], ◌∷◌, ◌++◌, true, false, Option, Some, None, Result, Ok, Err, refl, sym, ap, subst, ◌∙◌}
 use Rattle.std.specs.Prelude.{◌==◌, ◌||◌, if◌then◌else◌, encode_utf8}
 use Rattle.std.proofs.lemmas.Bool.{eqb-true, ltb-false, ne_eqb}
 use Rattle.pn_yaml.specs.Cuts.{begins_ascii}
 use lib.Utf8
 use Rattle.pn_yaml.specs.declared.fault.Why.TheVariants as why
 use Rattle.pn_yaml.specs.declared.fault.YamlFault.{YamlFault}
-use Rattle.pn_yaml.specs.declared.fault.YamlFault.TheVariants as fault
-use Rattle.pn_yaml.specs.Outcome.{◌>>=◌, Fails, wrong}
+use Rattle.pn_yaml.specs.Outcome.{◌>>=◌, wrong}
 use Rattle.pn_yaml.specs.Escapes.{character, code_at, digit_at, escape_at, two_at}
 use Rattle.pn_yaml.specs.Reading.{EndsAt}
-use Rattle.pn_yaml.specs.Scalars.{Word, Inside, double, slash, digits, Turn, go, bad, on_some, turned, with_bytes, quoted_at, digit_of, digit_turn, digits_behind, escape_of, is_surrogate}
+use Rattle.pn_yaml.specs.Scalars.{double, slash, digits, Turn, go, bad, on_some, turned, with_bytes, quoted_at, digit_of, digit_turn, digits_behind, escape_of, is_surrogate}
 use Rattle.pn_yaml.proofs.Tests.{either}
 use Rattle.pn_yaml.proofs.Quotes.{Read, double_slash, with_more, with_none}
 

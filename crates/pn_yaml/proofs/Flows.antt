@@ -1,17 +1,16 @@
 -- Lists and maps of a flow, item by item.
-use Rattle.std.proofs.Common.{◌≡◌, ◌≢◌, ℕ, zero, suc, ◌+◌, ◌-◌, ◌<◌, ◌≤◌, length, arith, List, [], ◌∷◌, ◌++◌, Bool, true, false, Result, Ok, Err, refl, sym, ap, subst, ◌∙◌, map as each}
-use Rattle.std.specs.Prelude.{◌==◌, ◌||◌, ◌&&◌, not, if◌then◌else◌}
+use Rattle.std.proofs.Common.{◌≡◌, ◌≢◌, ℕ, zero, suc, ◌-◌, ◌<◌, ◌≤◌, length, arith, List, [], ◌∷◌, ◌++◌, Bool, true, false, Ok, Err, refl, sym, ap, subst, ◌∙◌, map as each}
+use Rattle.std.specs.Prelude.{not, if◌then◌else◌}
 use Rattle.std.proofs.lemmas.List.{map_push}
 use Rattle.pn_yaml.specs.declared.fault.Why.TheVariants as why
 use Rattle.pn_yaml.specs.declared.fault.YamlFault.{YamlFault}
-use Rattle.pn_yaml.specs.declared.fault.YamlFault.TheVariants as fault
 use Rattle.pn_yaml.specs.declared.node.Node.{Node}
 use Rattle.pn_yaml.specs.declared.scalar.Place.TheVariants as place
 use Rattle.pn_yaml.specs.Bytes.{is_bare, starts, tail_of, unindented}
-use Rattle.pn_yaml.specs.Data.{Data, scalar, list, map, Items, no_items, item, Members, no_members, member, is_among}
+use Rattle.pn_yaml.specs.Data.{Data, scalar, list, map, Items, no_items, Members, no_members, is_among}
 use Rattle.pn_yaml.specs.Outcome.{◌>>=◌, Fails, wrong}
 use Rattle.pn_yaml.specs.Flow.{Reader, behind_value, flow_at, flow_items, flow_member, flow_members, flow_value, list_in, map_in, with_item, with_member}
-use Rattle.pn_yaml.specs.FlowSteps.{before_step, behind_step, flow_key, flow_scalar}
+use Rattle.pn_yaml.specs.FlowSteps.{before_step, behind_step, flow_key}
 use Rattle.pn_yaml.specs.KeySets.{seen_of}
 use Rattle.pn_yaml.specs.Scalars.{Word, is_colon, word_at}
 use Rattle.pn_yaml.specs.View.{items_of, members_of, view}
@@ -63,9 +62,6 @@ pub record ItemsSoFar (value : Reader) (line : ℕ) (text : List ℕ) (ds : List
   pub steps : ℕ
   pub enough : length rest ≤ steps
   pub so_far : flow_items value line (suc (length text)) text ≡ onto with_item ds (flow_items value line (suc steps) rest)
-
-pub items_start : (value : Reader) (line : ℕ) (text : List ℕ) → ItemsSoFar value line text [] text
-items_start value line text = record { steps = length text; enough = omega arith; so_far = refl }
 
 items_are : (value : Reader) (line : ℕ) (text : List ℕ) (ds : List Data) (rest : List ℕ) (s : ItemsSoFar value line text ds rest) (r : Reads Items)
     → round line 93 no_items value with_item (λ d. flow_items value line s.steps) rest ≡ r → whole_list value line text ≡ list_in (onto with_item ds r)
@@ -154,9 +150,6 @@ pub record MembersSoFar (value : Reader) (line : ℕ) (text : List ℕ) (ns : Li
   pub steps : ℕ
   pub enough : length rest ≤ steps
   pub so_far : flow_members value line (suc (length text)) [] text ≡ onto put_entry (entries_of ns) (flow_members value line (suc steps) (seen_of ns) rest)
-
-pub members_start : (value : Reader) (line : ℕ) (text : List ℕ) → MembersSoFar value line text [] text
-members_start value line text = record { steps = length text; enough = omega arith; so_far = refl }
 
 members_are : (value : Reader) (line : ℕ) (text : List ℕ) (ns : List (List ℕ × Node)) (rest : List ℕ) (s : MembersSoFar value line text ns rest) (r : Reads Members)
     → round line 125 no_members (flow_member value line (seen_of ns)) put_entry (on_member value line s.steps (seen_of ns)) rest ≡ r → whole_map value line text ≡ map_in (onto put_entry (entries_of ns) r)
@@ -353,11 +346,3 @@ flow_list levels line text inner ne e = ap (λ (n : ℕ). flow_at n line text) (
 
 pub flow_map : (levels line : ℕ) (text inner : List ℕ) → levels ≢ 0 → text ≡ 123 ∷ inner → flow_at levels line text ≡ whole_map (flow_at (levels - 1) line) line inner
 flow_map levels line text inner ne e = ap (λ (n : ℕ). flow_at n line text) (level levels ne) ∙ ap (λ (t : List ℕ). flow_at (suc (levels - 1)) line t) e
-
-pub flow_word : (levels line : ℕ) (text : List ℕ) → levels ≢ 0 → starts 91 text ≡ false → starts 123 text ≡ false → flow_at levels line text ≡ flow_scalar line text
-flow_word levels line text ne f g =
-    let l : Reads Data = list_in (flow_items (flow_at (levels - 1) line) line (length text) (tail_of text)) in
-    let m : Reads Data = map_in (flow_members (flow_at (levels - 1) line) line (length text) [] (tail_of text)) in
-    ap (λ (n : ℕ). flow_at n line text) (level levels ne)
-    ∙ ap (λ (v : Bool). if v then l else if starts 123 text then m else flow_scalar line text) f
-    ∙ ap (λ (v : Bool). if v then m else flow_scalar line text) g

@@ -1,6 +1,6 @@
 -- Keys of members, and sets of them.
-use Rattle.std.proofs.Common.{◌≡◌, ℕ, ◌-◌, ◌+◌, ◌<◌, suc, length, get_or, take, arith, List, [], ◌∷◌, ◌++◌, Bool, true, false, cond, Option, Some, None, Ordering, refl, sym, ap, subst, ◌∙◌}
-use Rattle.std.specs.Prelude.{◌&&◌, ◌||◌, bytes_eq, slice_get, not}
+use Rattle.std.proofs.Common.{◌≡◌, ℕ, ◌-◌, ◌+◌, ◌<◌, suc, length, get_or, take, arith, List, [], ◌∷◌, ◌++◌, Bool, true, false, cond, Some, Ordering, refl, sym, ap, ◌∙◌}
+use Rattle.std.specs.Prelude.{◌||◌, bytes_eq, slice_get}
 use Rattle.std.specs.Bool.{OnTrue}
 use Rattle.std.specs.BTreeSet.{BTreeSet, contains}
 use Rattle.std.specs.Cmp.Lexicographic.{slice_cmp}

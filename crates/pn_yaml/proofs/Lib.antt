@@ -5,7 +5,6 @@ pub mod QuotedLaw
 pub mod PlainLaw
 pub mod WordLaw
 pub mod FlowLaw
-pub mod Outcomes
 pub mod FlowApart
 pub mod BlockApart
 pub mod PrintedBytes
@@ -18,6 +17,7 @@ pub mod ReadBack
 pub mod Indentations
 pub mod LineEnds
 pub mod Headers
+pub mod Exits
 pub mod Filling
 pub mod Tests
 pub mod Cutting
@@ -34,4 +34,4 @@ pub mod Shrinking
 pub mod Rounds
 pub mod Flows
 pub mod Steps
-pub mod Exits
+pub mod Texts

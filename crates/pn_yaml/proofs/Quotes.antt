@@ -1,14 +1,13 @@
 -- Scalars in quotes, piece by piece.
-use Rattle.std.proofs.Common.{◌≡◌, ◌≢◌, ℕ, List, [], ◌∷◌, ◌++◌, Bool, true, false, Result, Ok, Err, refl, sym, ap, subst, ◌∙◌, append_assoc}
+use Rattle.std.proofs.Common.{◌≡◌, ◌≢◌, ℕ, List, [], ◌∷◌, ◌++◌, Bool, true, false, Result, Ok, Err, refl, sym, ap, ◌∙◌, append_assoc}
 use Rattle.std.specs.Prelude.{◌==◌, ◌||◌, if◌then◌else◌}
 use Rattle.std.specs.List.{list_any}
 use Rattle.std.proofs.lemmas.Bool.{ne_eqb}
 use Rattle.std.proofs.lemmas.List.{append-nil, append_cancel_right}
 use Rattle.pn_yaml.specs.declared.fault.Why.TheVariants as why
 use Rattle.pn_yaml.specs.declared.fault.YamlFault.{YamlFault}
-use Rattle.pn_yaml.specs.declared.fault.YamlFault.TheVariants as fault
 use Rattle.pn_yaml.specs.Bytes.{starts, is_empty}
-use Rattle.pn_yaml.specs.Outcome.{Fails, wrong}
+use Rattle.pn_yaml.specs.Outcome.{wrong}
 use Rattle.pn_yaml.specs.Reading.{EndsAt}
 use Rattle.pn_yaml.specs.Scalars.{Word, Inside, single, quote, double, slash, digits, Turn, go, closed, behind, bad, turn_of, turned, with_bytes, closed_at, quoted_at, quoted_end}
 use Rattle.pn_yaml.proofs.Tests.{neither}

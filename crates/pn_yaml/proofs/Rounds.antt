@@ -1,14 +1,13 @@
 -- One round of a flow: what comes next, an item or a member, and what is behind it.
-use Rattle.std.proofs.Common.{◌≡◌, ℕ, zero, suc, ◌+◌, ◌<◌, ◌≤◌, length, arith, List, [], ◌∷◌, ◌++◌, Bool, true, false, Result, Ok, Err, refl, sym, ap, subst, ◌∙◌}
-use Rattle.std.specs.Prelude.{◌==◌, ◌||◌, ◌&&◌, not, if◌then◌else◌}
+use Rattle.std.proofs.Common.{◌≡◌, ℕ, ◌<◌, ◌≤◌, length, arith, List, [], ◌∷◌, Bool, true, false, Result, Ok, Err, refl, ap, ◌∙◌}
+use Rattle.std.specs.Prelude.{if◌then◌else◌}
 use Rattle.pn_yaml.specs.declared.fault.Why.TheVariants as why
 use Rattle.pn_yaml.specs.declared.fault.YamlFault.{YamlFault}
 use Rattle.pn_yaml.specs.Bytes.{is_bare, starts, tail_of, unindented}
-use Rattle.pn_yaml.specs.Outcome.{◌>>=◌, Fails, wrong}
+use Rattle.pn_yaml.specs.Outcome.{◌>>=◌, wrong}
 use Rattle.pn_yaml.specs.Flow.{behind_value}
 use Rattle.pn_yaml.specs.FlowSteps.{before_step, behind_step}
-use Rattle.pn_yaml.proofs.Failing.{fails_as}
-use Rattle.pn_yaml.proofs.Shrinking.{Within, tail_within, unindented_within, within_more, within_ok, within_then}
+use Rattle.pn_yaml.proofs.Shrinking.{Within, tail_within, unindented_within, within_more, within_then}
 
 abbrev pub Reads : Type 0 → Type 0
 Reads A = Result (A × List ℕ) YamlFault

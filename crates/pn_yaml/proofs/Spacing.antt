@@ -1,15 +1,11 @@
 -- Spaces at the front and at the end of a text.
-use Rattle.std.proofs.Common.{◌≡◌, ℕ, ◌+◌, ◌-◌, ◌<◌, ◌≤◌, suc, ◌≢◌, length, get_or, take, drop, arith, List, [], ◌∷◌, ◌++◌, Bool, true, false, refl, sym, ap, subst, ◌∙◌}
+use Rattle.std.proofs.Common.{◌≡◌, ℕ, ◌+◌, ◌-◌, ◌<◌, ◌≤◌, ◌≢◌, length, get_or, take, arith, List, [], ◌∷◌, ◌++◌, Bool, true, false, refl, sym, ap, subst, ◌∙◌}
 use Rattle.std.specs.Prelude.{◌==◌, if◌then◌else◌}
 use Rattle.std.proofs.lemmas.Bool.{ne_eqb}
 use Rattle.std.proofs.lemmas.List.{take_more}
 use Rattle.std.specs.Str.{IsCharBoundary}
 use Rattle.std.proofs.lemmas.Str.{IsCharBoundary-before_ascii}
-use Rattle.pn_yaml.specs.Bytes.{space, is_blank, is_empty, trimmed, unindented}
-
--- a space more in front
-pub unindented_more : (text rest : List ℕ) → text ≡ 32 ∷ rest → unindented text ≡ unindented rest
-unindented_more text rest e = ap unindented e
+use Rattle.pn_yaml.specs.Bytes.{is_blank, is_empty, trimmed, unindented}
 
 blank_space : (front : List ℕ) → is_blank (front ++ 32 ∷ []) ≡ is_blank front
 blank_space [] = refl

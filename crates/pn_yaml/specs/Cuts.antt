@@ -1,5 +1,5 @@
 -- Where a text may be cut in two texts.
-use Rattle.std.specs.Prelude.{ℕ, nat_lt, Bool, true, false, ◌||◌, List, [], ◌∷◌}
+use Rattle.std.specs.Prelude.{ℕ, nat_lt, Bool, false, ◌||◌, List, [], ◌∷◌}
 use Rattle.pn_yaml.specs.Bytes.{is_empty}
 
 -- the text begins with an ASCII byte

@@ -1,6 +1,5 @@
 -- What comes next in a flow.
-use Rattle.std.specs.Prelude.{◌≡◌, ℕ, Bool, true, false, not, List, [], ◌∷◌, Result, Ok, Err, if◌then◌else◌}
-use Rattle.pn_yaml.specs.declared.fault.Why.{Why}
+use Rattle.std.specs.Prelude.{ℕ, Bool, true, false, not, List, Result, Ok, if◌then◌else◌}
 use Rattle.pn_yaml.specs.declared.fault.Why.TheVariants as why
 use Rattle.pn_yaml.specs.declared.fault.YamlFault.{YamlFault}
 use Rattle.pn_yaml.specs.declared.flow.Step.{Step}

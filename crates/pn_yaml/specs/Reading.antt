@@ -1,5 +1,5 @@
 -- What the functions that read give, as contracts see it.
-use Rattle.std.specs.Prelude.{◌≡◌, ℕ, List, [], ◌∷◌, ◌++◌, ◌==◌, ◌||◌, true, false}
+use Rattle.std.specs.Prelude.{◌≡◌, ℕ, List, ◌++◌, ◌==◌, ◌||◌, true, false}
 use Rattle.std.specs.List.{list_any}
 use Rattle.pn_yaml.specs.declared.node.Scalar.{Scalar}
 use Rattle.pn_yaml.specs.declared.scalar.Place.{Place}

@@ -1,4 +1,3 @@
-use Rattle.std.proofs.Common.{sym, ◌∙◌}
 use Rattle.pn_yaml.proofs.Quotes.{same_ends}
 use Rattle.pn_yaml.proofs.quoted.parted.Goals as goal
 

@@ -1,4 +1,4 @@
-use Rattle.std.proofs.Common.{ℕ, List, ◌≡◌, ◌≤◌, ◌-◌, get_or, length, take, arith, sym, ap, subst, ◌∙◌, refl}
+use Rattle.std.proofs.Common.{ℕ, List, ◌≡◌, ◌-◌, get_or, take, arith, sym, ap, subst, ◌∙◌}
 use Rattle.pn_yaml.specs.Bytes.{trimmed}
 use Rattle.pn_yaml.proofs.Spacing.{space_cut, trimmed_all, trimmed_less}
 use Rattle.pn_yaml.proofs.spaces.trimmed.Goals as goal
