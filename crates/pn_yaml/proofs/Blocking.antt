@@ -197,9 +197,10 @@ among_read value seen r below k (Err e) f = absurd cc
 key_read : (value : Reader) (seen : List (List ℕ)) (r : Row) (below : List Row) (k : List ℕ × List ℕ) → block_key seen r ≡ Ok k → block_member value seen r below ≡ valued value r below k
 key_read value seen r below k e =
     elim (is_item (content r)) as (λ o. cond o (no_key r) (key_at r.line (content r) >>= new_key seen r) ≡ Ok k
-        → cond o (no_member r) (key_at r.line (content r) >>= new_member value seen r below) ≡ valued value r below k)
-    [ true ↦ λ f. absurd cc
-    | false ↦ λ f. among_read value seen r below k (key_at r.line (content r)) f ] e
+    → cond o (no_member r) (key_at r.line (content r) >>= new_member value seen r below) ≡ valued value r below k) [
+      | true ↦ λ f. absurd cc
+      | false ↦ λ f. among_read value seen r below k (key_at r.line (content r)) f
+    ] e
 
 ok_fails : (value : Reader) (r : Row) (below : List Row) (e : YamlFault) (j : List ℕ × List ℕ) (a : Bool) → cond a (twice_key r) (Ok j) ≡ Err e → cond a (twice_member r) (valued value r below j) ≡ Err e
 ok_fails value r below e j true f = let same : fault.Line r.line why.Twice ≡ e = cc in ap (λ (x : YamlFault). Err x) same
@@ -211,9 +212,10 @@ among_fails value seen r below e (Err d) f = let same : d ≡ e = cc in ap (λ (
 
 key_fails : (value : Reader) (seen : List (List ℕ)) (r : Row) (below : List Row) (e : YamlFault) → block_key seen r ≡ Err e → block_member value seen r below ≡ Err e
 key_fails value seen r below e h =
-    elim (is_item (content r)) as (λ o. cond o (no_key r) (key_at r.line (content r) >>= new_key seen r) ≡ Err e → cond o (no_member r) (key_at r.line (content r) >>= new_member value seen r below) ≡ Err e)
-    [ true ↦ λ f. let same : fault.Line r.line why.Key ≡ e = cc in ap (λ (x : YamlFault). Err x) same
-    | false ↦ λ f. among_fails value seen r below e (key_at r.line (content r)) f ] h
+    elim (is_item (content r)) as (λ o. cond o (no_key r) (key_at r.line (content r) >>= new_key seen r) ≡ Err e → cond o (no_member r) (key_at r.line (content r) >>= new_member value seen r below) ≡ Err e) [
+      | true ↦ λ f. let same : fault.Line r.line why.Key ≡ e = cc in ap (λ (x : YamlFault). Err x) same
+      | false ↦ λ f. among_fails value seen r below e (key_at r.line (content r)) f
+    ] h
 
 member_read : (value : Reader) (seen : List (List ℕ)) (r : Row) (below : List Row) (k : List ℕ × List ℕ) (d : Data) (next : List Row) → block_key seen r ≡ Ok k → value true k.1 r below ≡ Ok (d, next)
     → block_member value seen r below ≡ Ok ((k.0, d), next)
@@ -225,7 +227,7 @@ members_step : (value : Reader) (i k : ℕ) (seen : List (List ℕ)) (front : Li
 members_step value i zero seen front r below total key d next en so is e f le = absurd (omega arith)
 members_step value i (suc k) seen front r below total key d next en so is e f le =
     let one : block_members value i (suc k) seen (r ∷ below) ≡ with_member key.0 d (block_members value i k (key.0 ∷ seen) next) =
-        at_member value i k seen r below is ∙ rw (member_read value seen r below key d next e f) refl in
+    at_member value i k seen r below is ∙ rw (member_read value seen r below key d next e f) refl in
     record {
       steps = k;
       enough = omega arith;

@@ -56,9 +56,10 @@ passed_le (r ∷ rows) =
 met_keeps : (n : ℕ) (rows : List Row) → length rows ≤ n → Keeps n (met rows)
 met_keeps n [] h = h
 met_keeps n (r ∷ rows) h =
-    elim (starts 9 (content r)) as (λ b. Keeps n (cond b (wrong r.line why.Tab) (cond (is_marker r) (wrong r.line why.LeftOut) (Ok (r ∷ rows)))))
-    [ true ↦ tt
-    | false ↦ elim (is_marker r) as (λ b. Keeps n (cond b (wrong r.line why.LeftOut) (Ok (r ∷ rows)))) [ true ↦ tt | false ↦ h ] ]
+    elim (starts 9 (content r)) as (λ b. Keeps n (cond b (wrong r.line why.Tab) (cond (is_marker r) (wrong r.line why.LeftOut) (Ok (r ∷ rows))))) [
+      | true ↦ tt
+      | false ↦ elim (is_marker r) as (λ b. Keeps n (cond b (wrong r.line why.LeftOut) (Ok (r ∷ rows)))) [ true ↦ tt | false ↦ h ]
+    ]
 
 pub ahead_keeps : (rows : List Row) → Keeps (length rows) (ahead rows)
 ahead_keeps rows = met_keeps (length rows) (passed rows) (passed_le rows)
@@ -73,12 +74,12 @@ lines_leave i w (r ∷ rows) =
     let n = suc (length rows) in
     let rest : Leaves n (scalar_lines i w rows) = leaves_more (length rows) n (scalar_lines i w rows) (omega arith) (lines_leave i w rows) in
     leaves_if n (is_blank r.bytes) (scalar_lines i w rows) (cond (leb (row_indentation r) i) (Ok ([], r ∷ rows)) (cond (leb w (row_indentation r)) (with_line (drop w r.bytes) (scalar_lines i w rows))
-        (cond (starts 9 (content r)) (wrong r.line why.Tab) (wrong r.line why.Indent)))) rest
+    (cond (starts 9 (content r)) (wrong r.line why.Tab) (wrong r.line why.Indent)))) rest
     (leaves_if n (leb (row_indentation r) i) (Ok ([], r ∷ rows)) (cond (leb w (row_indentation r)) (with_line (drop w r.bytes) (scalar_lines i w rows))
-        (cond (starts 9 (content r)) (wrong r.line why.Tab) (wrong r.line why.Indent))) (omega arith)
+    (cond (starts 9 (content r)) (wrong r.line why.Tab) (wrong r.line why.Indent))) (omega arith)
     (leaves_if n (leb w (row_indentation r)) (with_line (drop w r.bytes) (scalar_lines i w rows)) (cond (starts 9 (content r)) (wrong r.line why.Tab) (wrong r.line why.Indent))
-        (line_leaves n (drop w r.bytes) (scalar_lines i w rows) rest)
-        (leaves_if n (starts 9 (content r)) (wrong r.line why.Tab) (wrong r.line why.Indent) tt tt)))
+    (line_leaves n (drop w r.bytes) (scalar_lines i w rows) rest)
+    (leaves_if n (starts 9 (content r)) (wrong r.line why.Tab) (wrong r.line why.Indent) tt tt)))
 
 block_scalar_leaves : (s : Style) (i : ℕ) (rows : List Row) → Leaves (length rows) (scalar_block s i rows)
 block_scalar_leaves s i rows =
@@ -113,7 +114,7 @@ items_leave value reads i (suc steps) (r ∷ rows) =
     let n = suc (length rows) in
     leaves_if n (eqb (row_indentation r) i && is_item (content r)) (value false (tail_of (content r)) r rows >>= (λ v. with_item v.0 (block_items value i steps v.1))) (Ok (_, r ∷ rows))
     (leaves_then (length rows) n (value false (tail_of (content r)) r rows) (λ v. with_item v.0 (block_items value i steps v.1)) (reads false (tail_of (content r)) r rows)
-        (λ v l. item_leaves n v.0 (block_items value i steps v.1) (leaves_more (length v.1) n (block_items value i steps v.1) (omega arith) (items_leave value reads i steps v.1))))
+    (λ v l. item_leaves n v.0 (block_items value i steps v.1) (leaves_more (length v.1) n (block_items value i steps v.1) (omega arith) (items_leave value reads i steps v.1))))
     (omega arith)
 
 pub member_leave : (value : Reader) → Reads value → (seen : List (List ℕ)) (row : Row) (rows : List Row) → Leaves (length rows) (block_member value seen row rows)
@@ -121,8 +122,8 @@ member_leave value reads seen row rows =
     let n = length rows in
     leaves_if n (is_item (content row)) (wrong row.line why.Key) (key_at row.line (content row) >>= λ k. cond (is_among k.0 seen) (wrong row.line why.Twice) (value true k.1 row rows >>= λ v. Ok ((k.0, v.0), v.1))) tt
     (leaves_behind n (key_at row.line (content row)) (λ k. cond (is_among k.0 seen) (wrong row.line why.Twice) (value true k.1 row rows >>= λ v. Ok ((k.0, v.0), v.1)))
-        (λ k. leaves_if n (is_among k.0 seen) (wrong row.line why.Twice) (value true k.1 row rows >>= λ v. Ok ((k.0, v.0), v.1)) tt
-            (leaves_then n n (value true k.1 row rows) (λ v. Ok ((k.0, v.0), v.1)) (reads true k.1 row rows) (λ v l. l))))
+    (λ k. leaves_if n (is_among k.0 seen) (wrong row.line why.Twice) (value true k.1 row rows >>= λ v. Ok ((k.0, v.0), v.1)) tt
+    (leaves_then n n (value true k.1 row rows) (λ v. Ok ((k.0, v.0), v.1)) (reads true k.1 row rows) (λ v l. l))))
 
 members_leave : (value : Reader) → Reads value → (i steps : ℕ) (seen : List (List ℕ)) (rows : List Row) → Leaves (length rows) (block_members value i steps seen rows)
 members_leave value reads i zero seen rows = omega arith
@@ -130,11 +131,11 @@ members_leave value reads i (suc steps) seen [] = omega arith
 members_leave value reads i (suc steps) seen (r ∷ rows) =
     let n = suc (length rows) in
     leaves_if n (ltb (row_indentation r) i) (Ok (_, r ∷ rows)) (cond (ltb i (row_indentation r)) (wrong r.line why.Indent)
-        (block_member value seen r rows >>= λ m. with_member m.0.0 m.0.1 (block_members value i steps (m.0.0 ∷ seen) m.1))) (omega arith)
+    (block_member value seen r rows >>= λ m. with_member m.0.0 m.0.1 (block_members value i steps (m.0.0 ∷ seen) m.1))) (omega arith)
     (leaves_if n (ltb i (row_indentation r)) (wrong r.line why.Indent) (block_member value seen r rows >>= λ m. with_member m.0.0 m.0.1 (block_members value i steps (m.0.0 ∷ seen) m.1)) tt
     (leaves_then (length rows) n (block_member value seen r rows) (λ m. with_member m.0.0 m.0.1 (block_members value i steps (m.0.0 ∷ seen) m.1)) (member_leave value reads seen r rows)
-        (λ m l. member_leaves n m.0.0 m.0.1 (block_members value i steps (m.0.0 ∷ seen) m.1)
-            (leaves_more (length m.1) n (block_members value i steps (m.0.0 ∷ seen) m.1) (omega arith) (members_leave value reads i steps (m.0.0 ∷ seen) m.1)))))
+    (λ m l. member_leaves n m.0.0 m.0.1 (block_members value i steps (m.0.0 ∷ seen) m.1)
+    (leaves_more (length m.1) n (block_members value i steps (m.0.0 ∷ seen) m.1) (omega arith) (members_leave value reads i steps (m.0.0 ∷ seen) m.1)))))
 
 list_leaves : (n : ℕ) (r : Result (Items × List Row) YamlFault) → Leaves n r → Leaves n (list_in r)
 list_leaves n (Ok r) h = h
@@ -172,7 +173,7 @@ value_leaves (suc levels) keyed text row rows =
     let block = on_some (style_of (trimmed (plain_front place.Value t))) (λ s. scalar_block s (row_indentation row) rows) (scalar_on t row rows) in
     let flow : Result (Data × List Row) YamlFault = flow_at (suc levels) row.line t >>= (λ f. ending why.Flow row.line f.0 f.1 rows) in
     leaves_if n (is_bare text) (unwritten (value_on levels) keyed (row_indentation row) rows) (cond (is_flow t) flow block)
-        (unwritten_leaves (value_on levels) (value_leaves levels) keyed (row_indentation row) rows)
+    (unwritten_leaves (value_on levels) (value_leaves levels) keyed (row_indentation row) rows)
     (leaves_if n (is_flow t) flow block
-        (leaves_behind n (flow_at (suc levels) row.line t) (λ f. ending why.Flow row.line f.0 f.1 rows) (λ f. ending_leaves why.Flow row.line f.0 f.1 rows))
-        (some_leaves n (style_of (trimmed (plain_front place.Value t))) (λ s. scalar_block s (row_indentation row) rows) (scalar_on t row rows) (λ s. block_scalar_leaves s (row_indentation row) rows) (scalar_leaves t row rows)))
+    (leaves_behind n (flow_at (suc levels) row.line t) (λ f. ending why.Flow row.line f.0 f.1 rows) (λ f. ending_leaves why.Flow row.line f.0 f.1 rows))
+    (some_leaves n (style_of (trimmed (plain_front place.Value t))) (λ s. scalar_block s (row_indentation row) rows) (scalar_on t row rows) (λ s. block_scalar_leaves s (row_indentation row) rows) (scalar_leaves t row rows)))

@@ -19,34 +19,38 @@ Text = Result (List ℕ × List Row) YamlFault
 lines_filled : (i w : ℕ) (rows : List Row) → scalar_lines i w rows ≡ scalar_lines i w (filled rows)
 lines_filled i w [] = refl
 lines_filled i w (r ∷ rows) =
-    elim (is_blank r.bytes) as (λ b. is_blank r.bytes ≡ b → scalar_lines i w (r ∷ rows) ≡ scalar_lines i w (cond b (filled rows) (r ∷ rows)))
-    [ true ↦ λ e. rw e (lines_filled i w rows)
-    | false ↦ λ e. refl ] refl
+    elim (is_blank r.bytes) as (λ b. is_blank r.bytes ≡ b → scalar_lines i w (r ∷ rows) ≡ scalar_lines i w (cond b (filled rows) (r ∷ rows))) [
+      | true ↦ λ e. rw e (lines_filled i w rows)
+      | false ↦ λ e. refl
+    ] refl
 
 width_filled : (rows : List Row) → width_of rows ≡ width_of (filled rows)
 width_filled [] = refl
 width_filled (r ∷ rows) =
-    elim (is_blank r.bytes) as (λ b. is_blank r.bytes ≡ b → width_of (r ∷ rows) ≡ width_of (cond b (filled rows) (r ∷ rows)))
-    [ true ↦ λ e. rw e (width_filled rows)
-    | false ↦ λ e. refl ] refl
+    elim (is_blank r.bytes) as (λ b. is_blank r.bytes ≡ b → width_of (r ∷ rows) ≡ width_of (cond b (filled rows) (r ∷ rows))) [
+      | true ↦ λ e. rw e (width_filled rows)
+      | false ↦ λ e. refl
+    ] refl
 
 filled_head : (rows : List Row) (r : Row) (below : List Row) → filled rows ≡ r ∷ below → is_blank r.bytes ≡ false
 filled_head [] r below e = absurd cc
 filled_head (s ∷ rows) r below e =
-    elim (is_blank s.bytes) as (λ o. is_blank s.bytes ≡ o → cond o (filled rows) (s ∷ rows) ≡ r ∷ below → is_blank r.bytes ≡ false)
-    [ true ↦ λ o f. filled_head rows r below f
-    | false ↦ λ o f. let same : s ≡ r = cc in subst (λ (x : Row). is_blank x.bytes ≡ false) same o ] refl e
+    elim (is_blank s.bytes) as (λ o. is_blank s.bytes ≡ o → cond o (filled rows) (s ∷ rows) ≡ r ∷ below → is_blank r.bytes ≡ false) [
+      | true ↦ λ o f. filled_head rows r below f
+      | false ↦ λ o f. let same : s ≡ r = cc in subst (λ (x : Row). is_blank x.bytes ≡ false) same o
+    ] refl e
 
 pub filled_below : (rows : List Row) (r : Row) (below : List Row) → filled rows ≡ r ∷ below → length below < length rows
 filled_below [] r below e = absurd cc
 filled_below (s ∷ rows) r below e =
-    elim (is_blank s.bytes) as (λ o. cond o (filled rows) (s ∷ rows) ≡ r ∷ below → length below < suc (length rows))
-    [ true ↦ λ f. let lt : length below < length rows = filled_below rows r below f in omega arith
-    | false ↦ λ f. let same : rows ≡ below = cc in let len : length rows ≡ length below = ap length same in omega arith ] e
+    elim (is_blank s.bytes) as (λ o. cond o (filled rows) (s ∷ rows) ≡ r ∷ below → length below < suc (length rows)) [
+      | true ↦ λ f. let lt : length below < length rows = filled_below rows r below f in omega arith
+      | false ↦ λ f. let same : rows ≡ below = cc in let len : length rows ≡ length below = ap length same in omega arith
+    ] e
 
 at_row : (i w : ℕ) (rows : List Row) (r : Row) (below : List Row) → filled rows ≡ r ∷ below
     → scalar_lines i w rows ≡ cond (leb (row_indentation r) i) (Ok ([], r ∷ below)) (cond (leb w (row_indentation r)) (with_line (drop w r.bytes) (scalar_lines i w below))
-        (cond (starts 9 (content r)) (wrong r.line why.Tab) (wrong r.line why.Indent)))
+    (cond (starts 9 (content r)) (wrong r.line why.Tab) (wrong r.line why.Indent)))
 at_row i w rows r below e = lines_filled i w rows ∙ ap (scalar_lines i w) e ∙ rw (filled_head rows r below e) refl
 
 lines_stop : (i w : ℕ) (rows : List Row) (r : Row) (below : List Row) → filled rows ≡ r ∷ below → row_indentation r ≤ i → scalar_lines i w rows ≡ Ok ([], r ∷ below)

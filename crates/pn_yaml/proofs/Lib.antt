@@ -35,3 +35,5 @@ pub mod Rounds
 pub mod Flows
 pub mod Steps
 pub mod Texts
+pub mod Outcomes
+pub mod ReadFacts

@@ -84,9 +84,10 @@ numbered_next n t w rest number bytes k e m b s =
 pub passed_same : (rows : List Row) (r : Row) (below : List Row) → passed rows ≡ r ∷ below → is_passed_over r ≡ false
 passed_same [] r below e = absurd cc
 passed_same (s ∷ rows) r below e =
-    elim (is_passed_over s) as (λ o. is_passed_over s ≡ o → cond o (passed rows) (s ∷ rows) ≡ r ∷ below → is_passed_over r ≡ false)
-    [ true ↦ λ o f. passed_same rows r below f
-    | false ↦ λ o f. let same : s ≡ r = cc in subst (λ (x : Row). is_passed_over x ≡ false) same o ] refl e
+    elim (is_passed_over s) as (λ o. is_passed_over s ≡ o → cond o (passed rows) (s ∷ rows) ≡ r ∷ below → is_passed_over r ≡ false) [
+      | true ↦ λ o f. passed_same rows r below f
+      | false ↦ λ o f. let same : s ≡ r = cc in subst (λ (x : Row). is_passed_over x ≡ false) same o
+    ] refl e
 
 pub passed_other : (r : Row) (below : List Row) → is_passed_over r ≡ false → passed (r ∷ below) ≡ r ∷ below
 passed_other r below over = rw over refl

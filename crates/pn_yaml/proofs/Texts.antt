@@ -30,7 +30,6 @@ alone_left r d row rows h = ap alone h
 abbrev Said : Type 0
 Said = Result Data YamlFault
 
-
 pub says_text : (bytes : List ℕ) → IsUtf8 bytes → says bytes ≡ text_says bytes
 says_text bytes u = cond-true (is_utf8 bytes) (text_says bytes) (Err fault.NotUtf8) (is_utf8-from_IsUtf8 bytes u)
 

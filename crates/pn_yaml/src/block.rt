@@ -91,7 +91,10 @@ fn unwritten<'a>(
         (unwritten (value_on levels) keyed (row_indentation (row_of front.entry.line)) (rows_left front.entry.below)) }
 {
     let next = ahead(front.below)?;
-    if keyed && let Some(below) = next && is_below(front.line.indent, below.line) {
+    if keyed
+        && let Some(below) = next
+        && is_below(front.line.indent, below.line)
+    {
         return block_at(alloc, levels, below);
     }
     Ok((empty_scalar(alloc)?, next))
@@ -209,10 +212,7 @@ fn block_at<'a>(
 }
 
 /// The root, which begins with this line, and the lines ahead behind it.
-pub fn root_at<'a>(
-    alloc: Global,
-    front: Front<'a>,
-) -> Result<(Node, Option<Front<'a>>), YamlFault>
+pub fn root_at<'a>(alloc: Global, front: Front<'a>) -> Result<(Node, Option<Front<'a>>), YamlFault>
     ensures { Gives node_ahead result
         (root_at (row_of front.entry.line) (rows_left front.entry.below)) }
 {

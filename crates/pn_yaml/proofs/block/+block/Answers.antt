@@ -51,7 +51,7 @@ list_at-returns-in_err-item t c =
     let f = rw c.in-Some-item_at.ensures.1 at c.in_err-item.ensures in
     exit_gives node_ahead c.in_err-item.field-0.0 c.from_residual.result (list_in total) p
     (fails_on c.in_err-item.field-0.0 (value_on c.args.levels false (tail_of (content row)) row below) (list_in total)
-        (λ d is. ap list_in (items_fail (value_on c.args.levels) c.args.front.line.indent (views c.items.items) row below total d h c.in-Some-item_at.ensures.0 is)) f)
+    (λ d is. ap list_in (items_fail (value_on c.args.levels) c.args.front.line.indent (views c.items.items) row below total d h c.in-Some-item_at.ensures.0 is)) f)
 
 pub list_at-items-smaller : goal.list_at-items-smaller
 list_at-items-smaller t c =
@@ -59,7 +59,7 @@ list_at-items-smaller t c =
     let below = rows_left c.in-Some.front.below in
     let text = c.in-Some-item_at.text.now in
     let le : length (rows_ahead c.in_ok-item.after) ≤ length below =
-        leaves_ok (length below) (value_on c.args.levels false text row below) (view c.in_ok-item.item) (rows_ahead c.in_ok-item.after) (value_leaves c.args.levels false text row below) c.in_ok-item.ensures in
+    leaves_ok (length below) (value_on c.args.levels false text row below) (view c.in_ok-item.item) (rows_ahead c.in_ok-item.after) (value_leaves c.args.levels false text row below) c.in_ok-item.ensures in
     let len : length (rows_ahead c.items.next) ≡ suc (length below) = ap (λ (o : Option Front). length (rows_ahead o)) c.in-Some.is in
     omega (arith, le, len)
 
@@ -86,7 +86,7 @@ pub map_at-members-init : goal.map_at-members-init
 map_at-members-init t c = record {
   keys = subst (λ (ms : List (List ℕ × Node)). AreKeys c.new-keys.result (seen_of ms)) (sym c.new-members.ensures) c.new-keys.ensures;
   left = subst (λ (ms : List (List ℕ × Node)). MembersLeft (value_on c.args.levels) c.args.front.line.indent (seen_of ms) (member_views ms) (row_of c.args.front.line ∷ rows_left c.args.front.below) (members_from c.args.levels (row_of c.args.front.line) (rows_left c.args.front.below)))
-    (sym c.new-members.ensures) (members_begin c.args.levels c.args.front.line.indent (row_of c.args.front.line) (rows_left c.args.front.below) c.args.front.line.indented);
+      (sym c.new-members.ensures) (members_begin c.args.levels c.args.front.line.indent (row_of c.args.front.line) (rows_left c.args.front.below) c.args.front.line.indented);
 }
 
 pub map_at-returns-then-front-indent : goal.map_at-returns-then-front-indent
@@ -119,7 +119,7 @@ map_at-returns-in_err-key t c =
     let f = subst (λ (ms : List (List ℕ × Node)). Fails c.in_err-key.field-0.0 (block_key (seen_of ms) row)) c.as_slice.ensures c.in_err-key.ensures.gives in
     exit_gives node_ahead c.in_err-key.field-0.0 c.from_residual.result (map_in total) p
     (fails_on c.in_err-key.field-0.0 (block_key seen row) (map_in total)
-        (λ d is. ap map_in (key_fail (value_on c.args.levels) c.args.front.line.indent seen (member_views c.members.members) row below total d h at is)) f)
+    (λ d is. ap map_in (key_fail (value_on c.args.levels) c.args.front.line.indent seen (member_views c.members.members) row below total d h at is)) f)
 
 pub map_at-returns-in_err-value : goal.map_at-returns-in_err-value
 map_at-returns-in_err-value t c =
@@ -134,7 +134,7 @@ map_at-returns-in_err-value t c =
     let k = subst (λ (ms : List (List ℕ × Node)). block_key (seen_of ms) row ≡ Ok (c.in_ok-key.key, c.in_ok-key.text.now)) c.as_slice.ensures c.in_ok-key.ensures.gives in
     exit_gives node_ahead c.in_err-value.field-0.0 c.from_residual-in_err-value.result (map_in total) p
     (fails_on c.in_err-value.field-0.0 (value_on c.args.levels true c.in_ok-key.text.now row below) (map_in total)
-        (λ d is. ap map_in (value_fail (value_on c.args.levels) c.args.front.line.indent seen (member_views c.members.members) row below total (c.in_ok-key.key, c.in_ok-key.text.now) d h at k is)) c.in_err-value.ensures)
+    (λ d is. ap map_in (value_fail (value_on c.args.levels) c.args.front.line.indent seen (member_views c.members.members) row below total (c.in_ok-key.key, c.in_ok-key.text.now) d h at k is)) c.in_err-value.ensures)
 
 pub map_at-members-smaller : goal.map_at-members-smaller
 map_at-members-smaller t c =
@@ -142,7 +142,7 @@ map_at-members-smaller t c =
     let below = rows_left c.in-Some.front.below in
     let text = c.in_ok-key.text.now in
     let le : length (rows_ahead c.in_ok-value.after) ≤ length below =
-        leaves_ok (length below) (value_on c.args.levels true text row below) (view c.in_ok-value.value) (rows_ahead c.in_ok-value.after) (value_leaves c.args.levels true text row below) c.in_ok-value.ensures in
+    leaves_ok (length below) (value_on c.args.levels true text row below) (view c.in_ok-value.value) (rows_ahead c.in_ok-value.after) (value_leaves c.args.levels true text row below) c.in_ok-value.ensures in
     let len : length (rows_ahead c.members.next) ≡ suc (length below) = ap (λ (o : Option Front). length (rows_ahead o)) c.in-Some.is in
     omega (arith, le, len)
 
@@ -158,10 +158,10 @@ map_at-members-preserved t c =
     let k = subst (λ (ms : List (List ℕ × Node)). block_key (seen_of ms) row ≡ Ok (c.in_ok-key.key, c.in_ok-key.text.now)) c.as_slice.ensures c.in_ok-key.ensures.gives in
     let kept = subst (λ (ms : List (List ℕ × Node)). AreKeys c.new_key.new.keys (c.in_ok-key.key ∷ seen_of ms)) c.as_slice.ensures c.in_ok-key.ensures.kept in
     let all : member_views c.push.new.self ≡ member_views c.members.members ++ (c.in_ok-key.key, view c.in_ok-value.value) ∷ [] =
-        ap member_views c.in_ok-push.ensures.ok ∙ member_views_push c.members.members c.in_ok-key.key c.in_ok-value.value in
+    ap member_views c.in_ok-push.ensures.ok ∙ member_views_push c.members.members c.in_ok-key.key c.in_ok-value.value in
     let keys : seen_of c.push.new.self ≡ c.in_ok-key.key ∷ seen = ap seen_of c.in_ok-push.ensures.ok ∙ seen_of_push c.members.members c.in_ok-key.key c.in_ok-value.value in
     let more = members_more (value_on c.args.levels) c.args.front.line.indent seen (member_views c.members.members) row below total (c.in_ok-key.key, c.in_ok-key.text.now) (view c.in_ok-value.value) (rows_ahead c.in_ok-value.after)
-        (value_leaves c.args.levels) h at k c.in_ok-value.ensures in
+    (value_leaves c.args.levels) h at k c.in_ok-value.ensures in
     record {
       keys = subst (λ (ks : List (List ℕ)). AreKeys c.new_key.new.keys ks) (sym keys) kept;
       left = subst (λ (ks : List (List ℕ)). MembersLeft (value_on c.args.levels) c.args.front.line.indent ks (member_views c.push.new.self) (rows_ahead c.in_ok-value.after) total) (sym keys)
@@ -185,10 +185,10 @@ pub value_on-returns-in-Some-style_of : goal.value_on-returns-in-Some-style_of
 value_on-returns-in-Some-style_of t c =
     subst (λ (r : Read). Gives node_ahead c.scalar_block.result r)
     (sym (value_block_at c.args.levels c.args.keyed c.args.text.now (row_of c.args.front.line) (rows_left c.args.front.below) c.in-Some.text.now (style_is c.in-Some-style_of.style) c.args.front.line.indent
-        c.if-levels-eq0.false c.in-Some.ensures.0 c.in-Some.ensures.1 (sym c.is_flow.ensures ∙ c.if-is_flow.false) (sym c.in-Some-style_of.ensures) c.args.front.line.indented)) c.scalar_block.ensures
+    c.if-levels-eq0.false c.in-Some.ensures.0 c.in-Some.ensures.1 (sym c.is_flow.ensures ∙ c.if-is_flow.false) (sym c.in-Some-style_of.ensures) c.args.front.line.indented)) c.scalar_block.ensures
 
 pub value_on-returns-in-None : goal.value_on-returns-in-None
 value_on-returns-in-None t c =
     subst (λ (r : Read). Gives node_ahead c.scalar_on.result r)
     (sym (value_scalar_at c.args.levels c.args.keyed c.args.text.now (row_of c.args.front.line) (rows_left c.args.front.below) c.in-Some.text.now
-        c.if-levels-eq0.false c.in-Some.ensures.0 c.in-Some.ensures.1 (sym c.is_flow.ensures ∙ c.if-is_flow.false) (sym c.in-None.ensures))) c.scalar_on.ensures
+    c.if-levels-eq0.false c.in-Some.ensures.0 c.in-Some.ensures.1 (sym c.is_flow.ensures ∙ c.if-is_flow.false) (sym c.in-None.ensures))) c.scalar_on.ensures
