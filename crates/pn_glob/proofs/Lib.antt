@@ -4,3 +4,4 @@ pub mod Braces
 pub mod Heads
 pub mod LawProofs
 pub mod Turns
+pub mod Settled
