@@ -1,5 +1,5 @@
 -- One answer for each list of texts, to which each reading and each refusal leads.
-use Rattle.std.proofs.Common.{◌≡◌, ◌≤◌, ◌<◌, ◌+◌, ◌-◌, ℕ, suc, Bool, true, false, List, [], ◌∷◌, ◌++◌, length, refl, sym, ap, subst, ◌∙◌, inl, inr, arith, append_assoc, append-nil, length-append, add-one}
+use Rattle.std.proofs.Common.{◌≡◌, ◌+◌, ◌-◌, ℕ, Bool, true, false, List, [], ◌∷◌, ◌++◌, length, refl, sym, ap, ◌∙◌, inl, inr, arith, append_assoc, append-nil, length-append, add-one}
 use Rattle.std.specs.Prelude.{◌≢◌, ◌&&◌, not, if◌then◌else◌}
 use Rattle.std.specs.List.{list_all}
 use Rattle.pn_glob.specs.declared.fault.Bad.{Bad}
@@ -11,7 +11,7 @@ use Rattle.pn_glob.specs.declared.kind.Kind.TheVariants.{Paths, Names}
 use Rattle.pn_glob.specs.Bytes.{is_bracket}
 use Rattle.pn_glob.specs.Grammar.{HasBadByte, is_plain}
 use Rattle.pn_glob.specs.Laws.{SettledLaw}
-use Rattle.pn_glob.specs.Lists.{AreNames, ArePaths, HasBracket, IsBadAt, IsLarge, Met, ReadAll, Reads, Refused, before_slash, behind_bang, is_negative, moved, or_star, tail_of, none, positive, negative}
+use Rattle.pn_glob.specs.Lists.{HasBracket, IsBadAt, IsLarge, Met, ReadAll, Reads, Refused, before_slash, is_negative, moved, or_star, tail_of, none, positive, negative}
 use Rattle.pn_glob.specs.ListSteps.{fault_of}
 use Rattle.pn_glob.specs.Matching.{Patterns}
 use Rattle.pn_glob.proofs.Gaps.{and_left, and_right}
@@ -86,42 +86,32 @@ data Answer : Type 0 where
   lists : List (List ℕ) → List (List ℕ) → Answer
   refused : GlobFault → Answer
 
--- the same behind so many patterns, with their texts
+abbrev on_good : ℕ → (List (List ℕ) → Answer) → Reading → Answer
+on_good n f (good cs) = f cs
+on_good n f (wrong why) = refused (fault_of n why)
+
+-- the answer behind so many patterns with these texts
 abbrev answer : Kind → List (List ℕ) → ℕ → List (List ℕ) → List (List ℕ) → Answer
 answer kind [] n ps ns = lists ps ns
-answer kind (t ∷ ts) n ps ns = elim (reading kind t) [
-  | good cs ↦ (if is_negative t then answer kind ts (n + 1) ps (ns ++ cs) else answer kind ts (n + 1) (ps ++ cs) ns)
-  | wrong why ↦ refused (fault_of n why)
-]
+answer kind (t ∷ ts) n ps ns = on_good n (λ cs. if is_negative t then answer kind ts (n + 1) ps (ns ++ cs) else answer kind ts (n + 1) (ps ++ cs) ns) (reading kind t)
 
--- one step of it, by what the pattern is read as
-abbrev step : Kind → List ℕ → List (List ℕ) → ℕ → List (List ℕ) → List (List ℕ) → Reading → Answer
-step kind t ts n ps ns (good cs) = if is_negative t then answer kind ts (n + 1) ps (ns ++ cs) else answer kind ts (n + 1) (ps ++ cs) ns
-step kind t ts n ps ns (wrong why) = refused (fault_of n why)
-
-answer-step : (kind : Kind) (t : List ℕ) (ts : List (List ℕ)) (n : ℕ) (ps ns : List (List ℕ)) (r : Reading) → reading kind t ≡ r
-    → answer kind (t ∷ ts) n ps ns ≡ step kind t ts n ps ns r
-answer-step kind t ts n ps ns r e = ap (λ (z : Reading). elim z [
-  | good cs ↦ (if is_negative t then answer kind ts (n + 1) ps (ns ++ cs) else answer kind ts (n + 1) (ps ++ cs) ns)
-  | wrong why ↦ refused (fault_of n why)
-]) e ∙ elim r as (λ z. (elim z [
-  | good cs ↦ (if is_negative t then answer kind ts (n + 1) ps (ns ++ cs) else answer kind ts (n + 1) (ps ++ cs) ns)
-  | wrong why ↦ refused (fault_of n why)
-]) ≡ step kind t ts n ps ns z) [ good cs ↦ refl | wrong why ↦ refl ]
+-- the answer behind the texts of one more pattern
+abbrev behind : Kind → List (List ℕ) → ℕ → List (List ℕ) → List (List ℕ) → List (List ℕ) → Bool → Answer
+behind kind ts n ps ns cs v = if v then answer kind ts (n + 1) ps (ns ++ cs) else answer kind ts (n + 1) (ps ++ cs) ns
 
 read-answer : (kind : Kind) (ts ps ns : List (List ℕ)) → ReadAll kind ts ps ns → (rest : List (List ℕ)) → answer kind (ts ++ rest) 0 [] [] ≡ answer kind rest (length ts) ps ns
 read-answer kind _ _ _ none rest = refl
 read-answer kind _ _ ns (positive ts ps _ cs t r pos h) rest =
     ap (λ (z : List (List ℕ)). answer kind z 0 [] []) (append_assoc ts (t ∷ []) rest)
     ∙ read-answer kind ts ps ns r (t ∷ rest)
-    ∙ answer-step kind t rest (length ts) ps ns (good cs) (reads-reading kind t cs h)
-    ∙ ap (λ v. if v then answer kind rest (length ts + 1) ps (ns ++ cs) else answer kind rest (length ts + 1) (ps ++ cs) ns) pos
+    ∙ ap (on_good (length ts) (λ ds. behind kind rest (length ts) ps ns ds (is_negative t))) (reads-reading kind t cs h)
+    ∙ ap (behind kind rest (length ts) ps ns cs) pos
     ∙ ap (λ n. answer kind rest n (ps ++ cs) ns) (sym (length-append ts (t ∷ [])))
 read-answer kind _ ps _ (negative ts _ ns cs t r neg h) rest =
     ap (λ (z : List (List ℕ)). answer kind z 0 [] []) (append_assoc ts (t ∷ []) rest)
     ∙ read-answer kind ts ps ns r (t ∷ rest)
-    ∙ answer-step kind t rest (length ts) ps ns (good cs) (reads-reading kind t cs h)
-    ∙ ap (λ v. if v then answer kind rest (length ts + 1) ps (ns ++ cs) else answer kind rest (length ts + 1) (ps ++ cs) ns) neg
+    ∙ ap (on_good (length ts) (λ ds. behind kind rest (length ts) ps ns ds (is_negative t))) (reads-reading kind t cs h)
+    ∙ ap (behind kind rest (length ts) ps ns cs) neg
     ∙ ap (λ n. answer kind rest n ps (ns ++ cs)) (sym (length-append ts (t ∷ [])))
 
 all-answer : (kind : Kind) (ts ps ns : List (List ℕ)) → ReadAll kind ts ps ns → answer kind ts 0 [] [] ≡ lists ps ns
@@ -132,7 +122,7 @@ met-answer : (kind : Kind) (texts : List (List ℕ)) (text : List ℕ) (index : 
 met-answer kind texts text index why m e =
     ap (λ (z : List (List ℕ)). answer kind z 0 [] []) m.split
     ∙ read-answer kind m.front m.positive m.negative m.read (text ∷ m.after)
-    ∙ answer-step kind text m.after (length m.front) m.positive m.negative (wrong why) e
+    ∙ ap (on_good (length m.front) (λ ds. behind kind m.after (length m.front) m.positive m.negative ds (is_negative text))) e
     ∙ ap (λ n. refused (fault_of n why)) (sym m.place)
 
 refused-answer : (kind : Kind) (texts : List (List ℕ)) (e : GlobFault) → e ≢ fault.Memory → Refused kind texts e → answer kind texts 0 [] [] ≡ refused e
@@ -165,5 +155,5 @@ settled = record {
       let s = read-same Names texts x.written y.written l.negative m.negative x.read y.read in
       same-patterns l m (x.kind ∙ sym y.kind) (x.positive ∙ ap (λ (z : List (List ℕ)). or_star z l.negative) s.0 ∙ ap (or_star y.written) s.1 ∙ sym y.positive) s.1;
   unread = λ kind texts ps ns e n h r. not-both ps ns e (sym (all-answer kind texts ps ns r) ∙ refused-answer kind texts e n h);
-  fault = λ kind texts e f m n g h. same-fault e f (sym (refused-answer kind texts e m g) ∙ refused-answer kind texts f n h);
+  refusal = λ kind texts e f m n g h. same-fault e f (sym (refused-answer kind texts e m g) ∙ refused-answer kind texts f n h);
 }

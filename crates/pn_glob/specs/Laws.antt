@@ -37,5 +37,5 @@ pub record SettledLaw : Type 0 where
   pub paths : (texts : List (List ℕ)) (l m : Patterns) → ArePaths texts l → ArePaths texts m → l ≡ m
   pub names : (texts : List (List ℕ)) (l m : Patterns) → AreNames texts l → AreNames texts m → l ≡ m
   pub unread : (kind : Kind) (texts ps ns : List (List ℕ)) (e : GlobFault) → e ≢ fault.Memory → Refused kind texts e → ReadAll kind texts ps ns → ⊥
-  pub fault : (kind : Kind) (texts : List (List ℕ)) (e f : GlobFault) → e ≢ fault.Memory → f ≢ fault.Memory → Refused kind texts e → Refused kind texts f
+  pub refusal : (kind : Kind) (texts : List (List ℕ)) (e f : GlobFault) → e ≢ fault.Memory → f ≢ fault.Memory → Refused kind texts e → Refused kind texts f
       → e ≡ f
