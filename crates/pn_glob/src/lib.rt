@@ -16,7 +16,7 @@ mod paths;
 mod pattern;
 
 pub use fault::GlobFault;
-pub use laws::{literal_law, matching_law, negative_law, star_law};
+pub use laws::{literal_law, matching_law, negative_law, settled_law, star_law};
 pub use list::PatternList;
 
 #[cfg(test)]
