@@ -7,18 +7,14 @@ use Rattle.std.proofs.lemmas.Bool.Decides.{nat_tests}
 use Rattle.semver.specs.Grammar.{is_build_identifier, is_identifier_byte, is_pre_identifier}
 use Rattle.pn_ranges.specs.declared.comparator.Sign.{Sign}
 use Rattle.pn_ranges.specs.declared.comparator.Sign.TheVariants as x
-use Rattle.pn_ranges.specs.Bytes.{is_space, is_lead, is_wild, is_digit, front_of, behind, starts_with, number_at, number_from}
+use Rattle.pn_ranges.specs.Bytes.{is_space, is_lead, is_wild, is_digit, is_body, is_open, front_of, behind, starts_with, number_at, number_from}
 use Rattle.pn_ranges.specs.Grammar.{AreIdentifiers, AreSpaces, IsBuild, IsComparator, IsEnd, IsNumber, IsPart, IsPartial, IsSign, IsTail}
 use Rattle.pn_ranges.specs.Grammar as g
 use Rattle.pn_ranges.specs.Table.{Named, any, full, major, minor, named, limits, upper_limits, all_fit}
-use Rattle.pn_ranges.proofs.Accepts.{is_stop, number-of}
+use Rattle.pn_ranges.proofs.Accepts.{number-of}
 use Rattle.pn_ranges.proofs.Fronts.{behind-append, behind-same, behind-stops}
 use Rattle.pn_ranges.proofs.OverProofs.{all-append}
 use Rattle.pn_ranges.proofs.Words.{and_left, and_right}
-
--- the bytes of a version
-abbrev pub is_body : ℕ → Bool
-is_body b = not (is_stop b)
 
 digit-body : (b : ℕ) → is_digit b ≡ true → is_body b ≡ true
 digit-body b h = grind (arith, nat_tests)
@@ -159,9 +155,6 @@ partial-names _ _ (g.three t u w s p a b c i j k l) =
     ∙ ap (λ z. named a b z []) (part-value w c k s (tail-digit s p l)).0 ∙ sym (bare-named a b c p)
 
 -- what an end begins with
-abbrev pub is_open : ℕ → Bool
-is_open b = is_digit b || is_wild b
-
 abbrev pub is_head : ℕ → Bool
 is_head b = is_lead b || is_open b
 
