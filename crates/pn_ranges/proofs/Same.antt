@@ -10,6 +10,7 @@ use Rattle.pn_ranges.specs.declared.comparator.Sign.TheVariants as x
 use Rattle.pn_ranges.specs.Bytes.{is_space, is_lead, is_wild, is_digit, is_body, is_open, front_of, behind, starts_with, number_at, number_from}
 use Rattle.pn_ranges.specs.Grammar.{AreIdentifiers, AreSpaces, IsBuild, IsComparator, IsEnd, IsNumber, IsPart, IsPartial, IsSign, IsTail}
 use Rattle.pn_ranges.specs.Grammar as g
+use Rattle.pn_ranges.specs.Reading.{joined, signed, tilded}
 use Rattle.pn_ranges.specs.Table.{Named, any, full, major, minor, named, limits, upper_limits, all_fit}
 use Rattle.pn_ranges.proofs.Accepts.{number-of}
 use Rattle.pn_ranges.proofs.Fronts.{behind-append, behind-same, behind-stops}
@@ -22,7 +23,7 @@ digit-body b h = grind (arith, nat_tests)
 wild-body : (b : ℕ) → is_wild b ≡ true → is_body b ≡ true
 wild-body b h = grind (arith, nat_tests)
 
-lead-body : (b : ℕ) → is_lead b ≡ true → is_body b ≡ true
+pub lead-body : (b : ℕ) → is_lead b ≡ true → is_body b ≡ true
 lead-body b h = grind (arith, nat_tests)
 
 word-body : (b : ℕ) → is_identifier_byte b ≡ true → is_body b ≡ true
@@ -32,32 +33,32 @@ pub all-weaken : (f h : ℕ → Bool) → ((b : ℕ) → f b ≡ true → h b �
 all-weaken f h more [] all = refl
 all-weaken f h more (b ∷ t) all = rw (more b (and_left (f b) (list_all f t) all)) (all-weaken f h more t (and_right (f b) (list_all f t) all))
 
-part-body : (t : List ℕ) (a : Option ℕ) → IsPart t a → list_all is_body t ≡ true
+pub part-body : (t : List ℕ) (a : Option ℕ) → IsPart t a → list_all is_body t ≡ true
 part-body _ _ (g.wild b w) = all-weaken is_wild is_body wild-body (b ∷ []) (rw w refl)
 part-body _ _ (g.number t n i low) = number t n i where
   number : (t : List ℕ) (n : ℕ) → IsNumber t n → list_all is_body t ≡ true
   number _ _ g.zero = refl
   number _ _ (g.counted b bs d z all) = all-weaken is_digit is_body digit-body (b ∷ bs) (rw (d, all) refl)
 
-ids-body : (right : List ℕ → Bool) → ((y : List ℕ) → right y ≡ true → list_all is_body y ≡ true) → (t : List ℕ) → AreIdentifiers right t → list_all is_body t ≡ true
+pub ids-body : (right : List ℕ → Bool) → ((y : List ℕ) → right y ≡ true → list_all is_body y ≡ true) → (t : List ℕ) → AreIdentifiers right t → list_all is_body t ≡ true
 ids-body right f _ (g.one y h) = f y h
 ids-body right f _ (g.more y t h a) = all-append is_body y (46 ∷ t) (f y h) (ids-body right f t a)
 
-build-id : (y : List ℕ) → is_build_identifier y ≡ true → list_all is_body y ≡ true
+pub build-id : (y : List ℕ) → is_build_identifier y ≡ true → list_all is_body y ≡ true
 build-id y h = all-weaken is_identifier_byte is_body word-body y (and_right _ (list_all is_identifier_byte y) h)
 
-pre-id : (y : List ℕ) → is_pre_identifier y ≡ true → list_all is_body y ≡ true
+pub pre-id : (y : List ℕ) → is_pre_identifier y ≡ true → list_all is_body y ≡ true
 pre-id y h = build-id y (and_left (is_build_identifier y) _ h)
 
-build-body : (t : List ℕ) → IsBuild t → list_all is_body t ≡ true
+pub build-body : (t : List ℕ) → IsBuild t → list_all is_body t ≡ true
 build-body _ g.absent = refl
 build-body _ (g.build u a) = ids-body is_build_identifier build-id u a
 
-tail-body : (s p : List ℕ) → IsTail s p → list_all is_body s ≡ true
+pub tail-body : (s p : List ℕ) → IsTail s p → list_all is_body s ≡ true
 tail-body _ _ (g.bare t b) = build-body t b
 tail-body _ _ (g.pre p t a b) = all-append is_body p t (ids-body is_pre_identifier pre-id p a) (build-body t b)
 
-partial-body : (t : List ℕ) (n : Named) → IsPartial t n → list_all is_body t ≡ true
+pub partial-body : (t : List ℕ) (n : Named) → IsPartial t n → list_all is_body t ≡ true
 partial-body _ _ (g.one t a i) = part-body t a i
 partial-body _ _ (g.two t u a b i j) = all-append is_body t (46 ∷ u) (part-body t a i) (part-body u b j)
 partial-body _ _ (g.three t u w s p a b c i j k l) =
@@ -183,7 +184,7 @@ part-first _ _ (g.number t n i low) = number t n i where
   number _ _ g.zero = record { byte = 48; rest = []; split = refl; is = refl }
   number _ _ (g.counted b bs d z all) = record { byte = b; rest = bs; split = refl; is = digit-open b d }
 
-partial-first : (t : List ℕ) (n : Named) → IsPartial t n → First is_open t
+pub partial-first : (t : List ℕ) (n : Named) → IsPartial t n → First is_open t
 partial-first _ _ (g.one t a i) = part-first t a i
 partial-first _ _ (g.two t u a b i j) = first-more is_open t (46 ∷ u) (part-first t a i)
 partial-first _ _ (g.three t u w s p a b c i j k l) = first-more is_open t _ (part-first t a i)
@@ -191,7 +192,7 @@ partial-first _ _ (g.three t u w s p a b c i j k l) = first-more is_open t _ (pa
 open-head : (b : ℕ) → is_open b ≡ true → is_head b ≡ true
 open-head b h = grind (arith, nat_tests)
 
-lead-head : (b : ℕ) → is_lead b ≡ true → is_head b ≡ true
+pub lead-head : (b : ℕ) → is_lead b ≡ true → is_head b ≡ true
 lead-head b h = grind (arith, nat_tests)
 
 pub end-first : (t : List ℕ) (n : Named) → IsEnd t n → First is_head t
@@ -230,21 +231,7 @@ upper-bare (major a) = refl
 upper-bare (minor a b) = refl
 upper-bare (full a b c p) = refl
 
--- the operator at the front, and what is behind it
-abbrev joined : Sign → Sign → List ℕ → Sign × List ℕ
-joined s l [] = (s, [])
-joined s l (b ∷ t) = if b == 61 then (l, t) else (s, b ∷ t)
-
-abbrev tilded : List ℕ → List ℕ
-tilded [] = []
-tilded (b ∷ t) = if b == 62 then t else b ∷ t
-
-abbrev signed : List ℕ → Sign × List ℕ
-signed [] = (x.Exact, [])
-signed (b ∷ t) =
-    if b == 60 then joined x.Less x.AtMost t else if b == 62 then joined x.Greater x.AtLeast t else if b == 126 then (x.Tilde, tilded t)
-    else if b == 94 then (x.Caret, t) else if b == 61 then (x.Exact, t) else (x.Exact, b ∷ t)
-
+-- the operator at the front
 joined-alone : (s l : Sign) (t : List ℕ) → starts_with (λ b. b == 61) t ≡ false → joined s l t ≡ (s, t)
 joined-alone s l [] h = refl
 joined-alone s l (b ∷ t) h = rw h refl
@@ -255,10 +242,10 @@ tilded-alone (b ∷ t) h = rw h refl
 
 -- how a text begins with a comparator
 pub record Shape (text : List ℕ) (s : Sign) (n : Named) (r : List ℕ) : Type 0 where
-  end : List ℕ
-  is : IsEnd end n
-  sign : (signed (behind is_space text)).0 ≡ s
-  split : behind is_space (signed (behind is_space text)).1 ≡ end ++ r
+  pub end : List ℕ
+  pub is : IsEnd end n
+  pub sign : (signed (behind is_space text)).0 ≡ s
+  pub split : behind is_space (signed (behind is_space text)).1 ≡ end ++ r
 
 head-space : (b : ℕ) → is_head b ≡ true → is_space b ≡ false
 head-space b h = grind (arith, nat_tests)

@@ -273,7 +273,7 @@ long-at text at h e =
     record { front = to-digit p.start text at i; long = leb-true (2 ^ 64) (number_at (drop at text)) (long p.start text at i) }
 
 numbered : (text : List ℕ) (at : ℕ) → HasLargeNumber text at → IsLongAt text at ⊎ HasOver text (length text - at)
-numbered text at h = elim h.large [ inl e ↦ inl (long-at text at h.within e) | inr o ↦ inr o ]
+numbered text at h = elim h.large [ inl e ↦ inl (long-at text at h.within e.0) | inr o ↦ inr o ]
 
 pub place : PlaceLaw
 place = record { form = ranges-form; place = goes-on; number = numbered }

@@ -1,6 +1,7 @@
 // Laws of ranges in the subject's own words. The definitions by which `Range` reads and holds obey them.
 ghost use Rattle.pn_ranges.specs.Laws.{CaretLaw, HyphenLaw, PreLaw, UnionLaw};
 ghost use Rattle.pn_ranges.specs.PlaceLaw.{PlaceLaw};
+ghost use Rattle.pn_ranges.specs.RefusalLaw.{RefusalLaw};
 
 /// A caret of a full version without pre-release holds exactly the releases that aren't below it and whose left-most
 /// number that isn't zero is the same.
@@ -28,4 +29,9 @@ pub fn pre_law()
 /// too large is named where it stands, or where a limit raises it.
 pub fn place_law()
     ensures { PlaceLaw }
+{}
+
+/// Want of memory aside, a text is refused for at most one fault and place, and for none where it spells ranges.
+pub fn refusal_law()
+    ensures { RefusalLaw }
 {}
