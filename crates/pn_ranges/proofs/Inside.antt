@@ -103,7 +103,7 @@ past (c ∷ u) s b r y d h =
       not-large true h = cc h
       not-large false h = refl
 
-accepted : (text : List ℕ) (s : State) → accepts s text ≡ true → first_fault s text ≡ None
+pub accepted : (text : List ℕ) (s : State) → accepts s text ≡ true → first_fault s text ≡ None
 accepted [] s h = rw h refl
 accepted (b ∷ rest) s h = elim (step s b) as (λ o. step s b ≡ o → on_some o (λ n. small s n (b ∷ rest) && accepts n rest) ≡ true → first_fault s (b ∷ rest) ≡ None) [
   | None ↦ λ e k. absurd (let w : false ≡ true = k in cc)
@@ -115,12 +115,12 @@ accepted (b ∷ rest) s h = elim (step s b) as (λ o. step s b ≡ o → on_some
   not-large true h = cc h
   not-large false h = refl
 
-left-within : (n : ℕ) (s : Stop) → IsLeftOf n s → left_of s ≤ n
+pub left-within : (n : ℕ) (s : Stop) → IsLeftOf n s → left_of s ≤ n
 left-within n (stop.Byte k) h = h
 left-within n (stop.Number k) h = h
 left-within n stop.Memory h = omega arith
 
-stop-digit : (b : ℕ) → is_stop b ≡ true → is_digit b ≡ false
+pub stop-digit : (b : ℕ) → is_stop b ≡ true → is_digit b ≡ false
 stop-digit b h = grind (arith, nat_tests)
 
 -- what may stand behind a version

@@ -26,4 +26,5 @@ pub mod Reached
 pub mod Unreads
 pub mod Bars
 pub mod Counts
+pub mod Firsts
 pub mod Refused

@@ -1,4 +1,4 @@
--- Of a text at most one fault is named.
+-- Of a text at most one fault is named, and the first one.
 use Rattle.std.proofs.Common.{◌≡◌, ◌≢◌, ◌≤◌, ◌-◌, ℕ, List, length, Option, Some, refl, sym, ap, ◌∙◌, arith, inl, inr}
 use Rattle.pn_ranges.specs.declared.fault.RangeFault.{RangeFault}
 use Rattle.pn_ranges.specs.declared.fault.RangeFault.TheVariants as fault
@@ -9,6 +9,7 @@ use Rattle.pn_ranges.specs.Places.{first_fault, start}
 use Rattle.pn_ranges.specs.RefusalLaw.{RefusalLaw}
 use Rattle.pn_ranges.specs.Refusals.{HasBadByte, HasLargeNumber, HasMany, RangeRefused}
 use Rattle.pn_ranges.proofs.Counts.{too-many}
+use Rattle.pn_ranges.proofs.Firsts.{over-first}
 use Rattle.pn_ranges.proofs.Reached.{over-ranges, over-unique}
 use Rattle.pn_ranges.proofs.Stopped.{no-byte, no-number, ranges-form}
 
@@ -76,4 +77,4 @@ none text r (fault.NumberTooLarge a) s h m = elim h.large [
 none text r fault.TooMany s h m = too-many text h.count h.ranges h.read h.many r s
 
 pub refusals : RefusalLaw
-refusals = record { one = one; none = none }
+refusals = record { one = one; none = none; first = over-first }

@@ -155,7 +155,7 @@ comparators-form : (t : List ℕ) (k : ℕ) (ls : List Limit) → AreComparators
 comparators-form _ _ _ (g.one t x n c fit) = f.one t x n c
 comparators-form _ _ _ (g.more t s u x n k ls c fit a d) = f.more t s u x n c a (comparators-form u k ls d)
 
-range-form : (t : List ℕ) (k : ℕ) (ls : List Limit) → IsRange t k ls → f.IsForm t
+pub range-form : (t : List ℕ) (k : ℕ) (ls : List Limit) → IsRange t k ls → f.IsForm t
 range-form _ _ _ g.empty = f.empty
 range-form _ _ _ (g.comparators t k ls c) = f.comparators t (comparators-form t k ls c)
 range-form _ _ _ (g.hyphen a s r b low high i p q j fit) = f.hyphen a s r b low high i p q j
