@@ -1,13 +1,10 @@
 -- A bound that is raised stands before the first fault of the automaton.
-use Rattle.std.proofs.Common.{◌≡◌, ◌≤◌, ◌<◌, ℕ, Bool, true, false, List, [], ◌∷◌, ◌++◌, length, Option, Some, None, refl, sym, ap, subst, ◌∙◌, arith, inl, inr, append_assoc, append-nil, length-append}
-use Rattle.std.specs.Prelude.{◌==◌}
-use Rattle.std.specs.List.{list_all}
+use Rattle.std.proofs.Common.{◌≡◌, ◌≤◌, ◌<◌, ℕ, true, false, List, [], ◌∷◌, ◌++◌, length, Some, None, refl, sym, ap, subst, ◌∙◌, arith, inl, inr, append_assoc, append-nil, length-append}
 use Rattle.std.proofs.lemmas.Bool.{cases_Bool, eqb-true}
 use Rattle.pn_ranges.specs.declared.fault.Stop.{Stop}
 use Rattle.pn_ranges.specs.Bytes.{is_body, is_space, is_stop, starts_with}
 use Rattle.pn_ranges.specs.Forms.{AreCompared, AreForms, IsForm}
 use Rattle.pn_ranges.specs.Forms as f
-use Rattle.pn_ranges.specs.Grammar.{AreSpaces}
 use Rattle.pn_ranges.specs.Overs.{HasOver, OverLater, OverRange, OverUpper}
 use Rattle.pn_ranges.specs.Overs as o
 use Rattle.pn_ranges.specs.Places.{first_fault, start}

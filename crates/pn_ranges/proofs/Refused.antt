@@ -1,11 +1,10 @@
 -- Of a text at most one fault is named, and the first one.
-use Rattle.std.proofs.Common.{◌≡◌, ◌≢◌, ◌≤◌, ◌-◌, ℕ, List, length, Option, Some, refl, sym, ap, ◌∙◌, arith, inl, inr}
+use Rattle.std.proofs.Common.{◌≡◌, ◌≢◌, ◌≤◌, ◌-◌, ℕ, List, length, Some, refl, sym, ap, ◌∙◌, arith, inl, inr}
 use Rattle.pn_ranges.specs.declared.fault.RangeFault.{RangeFault}
 use Rattle.pn_ranges.specs.declared.fault.RangeFault.TheVariants as fault
 use Rattle.pn_ranges.specs.declared.fault.Stop.TheVariants as stop
 use Rattle.pn_ranges.specs.Grammar.{Spells}
 use Rattle.pn_ranges.specs.Limits.{Limit}
-use Rattle.pn_ranges.specs.Places.{first_fault, start}
 use Rattle.pn_ranges.specs.RefusalLaw.{RefusalLaw}
 use Rattle.pn_ranges.specs.Refusals.{HasBadByte, HasLargeNumber, HasMany, RangeRefused}
 use Rattle.pn_ranges.proofs.Counts.{too-many}

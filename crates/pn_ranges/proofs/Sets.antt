@@ -1,6 +1,6 @@
 -- Sets of ranges.
-use Rattle.std.proofs.Common.{◌≡◌, ◌≤◌, ◌+◌, ◌-◌, ℕ, suc, Bool, true, false, List, [], ◌∷◌, ◌++◌, length, map, Some, None, refl, sym, ap, subst, ◌∙◌, arith, inl, inr, append_assoc, append-nil, zero-add}
-use Rattle.std.specs.Prelude.{◌==◌, ◌||◌, if◌then◌else◌}
+use Rattle.std.proofs.Common.{◌≡◌, ◌≤◌, ◌+◌, ◌-◌, ℕ, Bool, true, false, List, [], ◌∷◌, ◌++◌, length, map, Some, None, refl, sym, ap, subst, ◌∙◌, arith, inl, inr, append_assoc, append-nil, zero-add}
+use Rattle.std.specs.Prelude.{◌==◌, ◌||◌}
 use Rattle.std.specs.List.{list_any}
 use Rattle.pn_ranges.specs.declared.fault.Stop.{Stop}
 use Rattle.pn_ranges.specs.declared.fault.Stop.TheVariants as stop
@@ -8,7 +8,7 @@ use Rattle.pn_ranges.specs.Bytes.{is_space, behind, front_of, starts_with}
 use Rattle.pn_ranges.specs.Grammar.{AreRanges}
 use Rattle.pn_ranges.specs.Grammar as g
 use Rattle.pn_ranges.specs.Limits.{Limit}
-use Rattle.pn_ranges.specs.Places.{State, bar, closed, start, step, may_end, is_large, on_step, first_fault}
+use Rattle.pn_ranges.specs.Places.{bar, closed, start, first_fault}
 use Rattle.pn_ranges.specs.Reading.{RangeAt, RangesBefore, SpacedRange, Stops}
 use Rattle.pn_ranges.specs.Unread.{ends_range}
 use Rattle.pn_ranges.specs.Overs.{HasOver}

@@ -1,32 +1,31 @@
 -- Where the reader stops nothing is read, neither up to a range's end nor up to a bound that is raised.
-use Rattle.std.proofs.Common.{◌≡◌, ◌≤◌, ℕ, Bool, true, false, List, [], ◌∷◌, ◌++◌, length, Option, Some, None, refl, sym, ap, subst, ◌∙◌, arith, inl, inr, append_assoc, append-nil}
-use Rattle.std.specs.Prelude.{◌==◌, ◌&&◌}
-use Rattle.std.proofs.lemmas.Bool.Decides.{nat_tests}
+use Rattle.std.proofs.Common.{◌≡◌, ℕ, Bool, true, false, List, [], ◌∷◌, ◌++◌, length, Option, Some, None, refl, sym, ap, subst, ◌∙◌, arith, inl, inr, append_assoc, append-nil}
+use Rattle.std.specs.Prelude.{◌==◌}
 use Rattle.pn_ranges.specs.declared.comparator.Sign.{Sign}
 use Rattle.pn_ranges.specs.declared.comparator.Sign.TheVariants as x
 use Rattle.pn_ranges.specs.declared.fault.Stop.TheVariants as stop
-use Rattle.pn_ranges.specs.Bytes.{is_body, is_space, behind, front_of, starts_with}
+use Rattle.pn_ranges.specs.Bytes.{is_space, behind, starts_with}
 use Rattle.pn_ranges.specs.Forms as f
 use Rattle.pn_ranges.specs.Grammar.{AreGaps, AreSpaces, Begins, IsCompared, IsComparator, IsEnd}
 use Rattle.pn_ranges.specs.Grammar as g
 use Rattle.pn_ranges.specs.Limits.{Limit}
 use Rattle.pn_ranges.specs.Overs.{HasOver, NoLower, OverAt, OverLater, OverRange, OverUpper}
 use Rattle.pn_ranges.specs.Overs as o
-use Rattle.pn_ranges.specs.Places.{State, first_fault, gap, start}
+use Rattle.pn_ranges.specs.Places.{first_fault, gap, start}
 use Rattle.pn_ranges.specs.Reading.{LowerAt, SpacedAt, SpacedRange, UpperAt}
 use Rattle.pn_ranges.specs.Refusals.{NoOver}
 use Rattle.pn_ranges.specs.Table.{Named, all_fit, limits, named, upper_limits}
 use Rattle.pn_ranges.specs.Unread.{Closes, LaterTo, NeverTo, NoCompared, NoLater, NoRest, NoUpper, RangeTo, UpperTo, ends_range}
 use Rattle.pn_ranges.specs.Unread as u
 use Rattle.pn_ranges.proofs.Bars.{no_bar, spaced-bars}
-use Rattle.pn_ranges.proofs.Closings.{apart-body, closes-body, closes-spaces, ends-body, gap-body}
+use Rattle.pn_ranges.proofs.Closings.{apart-body, closes-body, closes-spaces, gap-body}
 use Rattle.pn_ranges.proofs.Comparisons.{end-comparator}
 use Rattle.pn_ranges.proofs.Counts.{bars-split}
 use Rattle.pn_ranges.proofs.Faults.{fault-left}
 use Rattle.pn_ranges.proofs.Fronts.{behind-append, behind-same}
 use Rattle.pn_ranges.proofs.Inside.{past}
 use Rattle.pn_ranges.proofs.Passes.{forms-go}
-use Rattle.pn_ranges.proofs.Reached.{FirstTo, Onward, first-more-ranges, first-over, first-unique, later-begun, later-open, later-over, lower-not, onward, over, last, more, range-read, same-begun, upper-is}
+use Rattle.pn_ranges.proofs.Reached.{FirstTo, first-more-ranges, first-over, first-unique, later-begun, later-open, later-over, lower-not, onward, over, last, more, range-read, same-begun, upper-is}
 use Rattle.pn_ranges.proofs.Same.{Shape, behind-all, comparator-shape, head-same, same-end, same-split, upper-bare}
 
 -- the comparator at the front

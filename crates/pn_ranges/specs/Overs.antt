@@ -1,5 +1,5 @@
 -- Bounds that would be raised to 2^64, in texts that are read whole up to them.
-use Rattle.std.specs.Prelude.{◌≡◌, ◌<◌, ◌==◌, ℕ, suc, not, List, ◌∷◌, ◌++◌, length, Option, true, false}
+use Rattle.std.specs.Prelude.{◌≡◌, ◌<◌, ℕ, suc, not, List, ◌∷◌, ◌++◌, length, Option, true, false}
 use Rattle.std.specs.List.{list_all}
 use Rattle.pn_ranges.specs.declared.comparator.Sign.{Sign}
 use Rattle.pn_ranges.specs.Bytes.{is_body, is_lead, is_open, starts_with}

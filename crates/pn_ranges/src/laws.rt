@@ -31,7 +31,8 @@ pub fn place_law()
     ensures { PlaceLaw }
 {}
 
-/// Want of memory aside, a text is refused for at most one fault and place, and for none where it spells ranges.
+/// Want of memory aside, a text is refused for at most one fault and place, and for none where it spells ranges. A bound
+/// that would reach 2^64, where all before it is read whole, stands before each other fault.
 pub fn refusal_law()
     ensures { RefusalLaw }
 {}

@@ -169,9 +169,18 @@ const REFUSED: [(&str, RangeFault); 55] = [
     ("18446744073709551615 - !", RangeFault::BadByte(23)),
     ("1 - 18446744073709551615!", RangeFault::BadByte(24)),
     ("1 - 18446744073709551615 !", RangeFault::NumberTooLarge(4)),
-    ("1 || ~2.18446744073709551615 3 -", RangeFault::NumberTooLarge(8)),
-    ("~0.18446744073709551615 18446744073709551616", RangeFault::NumberTooLarge(3)),
-    ("18446744073709551616 ^18446744073709551615", RangeFault::NumberTooLarge(0)),
+    (
+        "1 || ~2.18446744073709551615 3 -",
+        RangeFault::NumberTooLarge(8),
+    ),
+    (
+        "~0.18446744073709551615 18446744073709551616",
+        RangeFault::NumberTooLarge(3),
+    ),
+    (
+        "18446744073709551616 ^18446744073709551615",
+        RangeFault::NumberTooLarge(0),
+    ),
     ("^0.0.18446744073709551615", RangeFault::NumberTooLarge(5)),
 ];
 

@@ -1,11 +1,11 @@
-use Rattle.std.proofs.Common.{sym, ap, subst, ◌∙◌, inr, true}
+use Rattle.std.proofs.Common.{sym, ap, ◌∙◌, inr}
 use Rattle.pn_ranges.specs.Edges.{named_by}
 use Rattle.pn_ranges.specs.Overs.{OverUpper}
 use Rattle.pn_ranges.specs.Places.{first_fault, dash}
 use Rattle.pn_ranges.specs.Table.{all_fit, upper_limits, upper_raised}
 use Rattle.pn_ranges.specs.Unread.{NoRest}
 use Rattle.pn_ranges.proofs.Closings.{between-upper}
-use Rattle.pn_ranges.proofs.Joins.{closed-stop, exit_by, hyphen-read, memory-stops, over-stops, stops-fault}
+use Rattle.pn_ranges.proofs.Joins.{closed-stop, exit_by, hyphen-read, over-stops, stops-fault}
 use Rattle.pn_ranges.proofs.Unreads.{rest-closed, rest-none}
 use Rattle.pn_ranges.proofs.range.hyphen_at.Goals as goal
 
@@ -27,9 +27,8 @@ returns-clause-read c = hyphen-read (named_by c.args.low.now) (named_by c.in_ok-
 
 pub returns-then-not-ends_range-clause-stops : goal.returns-then-not-ends_range-clause-stops
 returns-then-not-ends_range-clause-stops c =
-    let more = sym c.ends_range.ensures ∙ c.if-not-ends_range.true in
-    (
+    let more = sym c.ends_range.ensures ∙ c.if-not-ends_range.true in (
       c.in_ok-high.ensures.goes ∙ closed-stop c.in_ok-high.rest.now c.in_ok-high.ensures.spaces more,
       rest-closed c.args.text.now c.in_ok-high.rest.now (named_by c.in_ok-high.high) c.in_ok-high.ensures.read c.in_ok-high.ensures.spaces more
-      (between-upper (named_by c.args.low.now) (named_by c.in_ok-high.high) (ap all_fit (sym c.in_ok-edges.ensures.value) ∙ c.in_ok-push_edges.ensures.fit)),
+          (between-upper (named_by c.args.low.now) (named_by c.in_ok-high.high) (ap all_fit (sym c.in_ok-edges.ensures.value) ∙ c.in_ok-push_edges.ensures.fit)),
     )

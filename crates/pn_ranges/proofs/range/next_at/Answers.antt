@@ -1,4 +1,4 @@
-use Rattle.std.proofs.Common.{false, sym, ◌∙◌, refl}
+use Rattle.std.proofs.Common.{false, ◌∙◌, refl}
 use Rattle.pn_ranges.specs.Edges.{named_by}
 use Rattle.pn_ranges.specs.Overs.{OverLater}
 use Rattle.pn_ranges.specs.Places.{first_fault, gap, later}
@@ -36,8 +36,7 @@ returns-clause-over c =
 
 pub returns-clause-none : goal.returns-clause-none
 returns-clause-none c = λ none.
-    let p = c.in_ok-comparator.comparator in
-    (
+    let p = c.in_ok-comparator.comparator in (
       c.requires.some,
       later-more c.args.text.now c.in_ok-comparator.rest.now p.sign (named_by p.partial) c.in_ok-comparator.ensures.read c.in_ok-comparator.ensures.spaces c.in_ok-push_comparator.ensures.fit none,
     )

@@ -1,4 +1,4 @@
-use Rattle.std.proofs.Common.{subst, sym, ap, ◌∙◌}
+use Rattle.std.proofs.Common.{subst, sym}
 use Rattle.pn_ranges.specs.Grammar.{Spells}
 use Rattle.pn_ranges.specs.Overs.{HasOver}
 use Rattle.pn_ranges.specs.Places.{first_fault, start}
