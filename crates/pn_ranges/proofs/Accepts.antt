@@ -71,7 +71,7 @@ stays-on s test stay (b ∷ run) rest all h = elim (cases_Bool (test b)) [
 ]
 
 -- the bytes of one kind are none of another
-stop-digit : (b : ℕ) → is_stop b ≡ true → is_digit b ≡ false
+pub stop-digit : (b : ℕ) → is_stop b ≡ true → is_digit b ≡ false
 stop-digit b h = grind (arith, nat_tests)
 
 stop-word : (b : ℕ) → is_stop b ≡ true → is_identifier_byte b ≡ false
@@ -106,9 +106,6 @@ digit-word b h = grind (arith, nat_tests)
 
 word-digit : (b : ℕ) → is_identifier_byte b ≡ false → is_digit b ≡ false
 word-digit b h = grind (arith, nat_tests)
-
-pub lead-space : (b : ℕ) → is_lead b ≡ true → is_space b ≡ false
-lead-space b h = grind (arith, nat_tests)
 
 lead-digit : (b : ℕ) → is_lead b ≡ true → is_digit b ≡ false
 lead-digit b h = grind (arith, nat_tests)

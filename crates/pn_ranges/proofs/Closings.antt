@@ -43,10 +43,6 @@ pub gap-starts : (s r : List ℕ) → AreGaps s → starts_with is_space (s ++ r
 gap-starts [] r a = absurd (let y : false ≡ true = a.some in cc)
 gap-starts (b ∷ s) r a = a.some
 
-pub no-stop : (r : List ℕ) → starts_with is_space r ≡ false → ends_range r ≡ false → starts_with is_body r ≡ true
-no-stop [] h e = cc e
-no-stop (b ∷ r) h e = rw (h, e) refl
-
 -- what is behind the spaces behind a version
 pub gap-whole : (mid rest : List ℕ) → rest ≡ behind is_space mid → (starts_with is_space mid ≡ false → ends_range rest ≡ true) → starts_with is_body mid ≡ false
 gap-whole [] rest r h = refl

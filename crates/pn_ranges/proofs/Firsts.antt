@@ -9,9 +9,9 @@ use Rattle.pn_ranges.specs.Overs.{HasOver, OverLater, OverRange, OverUpper}
 use Rattle.pn_ranges.specs.Overs as o
 use Rattle.pn_ranges.specs.Places.{first_fault, start}
 use Rattle.pn_ranges.specs.Reading.{left_of}
-use Rattle.pn_ranges.proofs.Accepts.{not-no}
+use Rattle.pn_ranges.proofs.Accepts.{not-no, stop-digit}
 use Rattle.pn_ranges.proofs.Faults.{fault-left}
-use Rattle.pn_ranges.proofs.Inside.{accepted, left-within, past, stop-digit}
+use Rattle.pn_ranges.proofs.Inside.{accepted, left-within, past}
 use Rattle.pn_ranges.proofs.OverProofs.{all-append}
 use Rattle.pn_ranges.proofs.Passes.{forms-go}
 use Rattle.pn_ranges.proofs.Stopped.{range-form}

@@ -15,13 +15,13 @@ use Rattle.pn_ranges.specs.Reading.{left_of, signed}
 use Rattle.pn_ranges.specs.Refusals.{IsLeftOf}
 use Rattle.pn_ranges.specs.Table.{Named}
 use Rattle.pn_ranges.specs.Unread.{NoCompared, NoEnd, NoUpper}
-use Rattle.pn_ranges.proofs.Accepts.{accepts, end-goes, goes, not-no, on_some, small}
+use Rattle.pn_ranges.proofs.Accepts.{accepts, end-goes, goes, not-no, not-yes, on_some, small, stop-digit}
 use Rattle.pn_ranges.proofs.Closings.{gap-starts}
 use Rattle.pn_ranges.proofs.Faults.{fault-left}
 use Rattle.pn_ranges.proofs.Fronts.{behind-append, behind-le, behind-same, behind-stops, front-all, front-behind, number-stops}
-use Rattle.pn_ranges.proofs.Same.{all-weaken, behind-all, build-id, comparator-shape, end-body, head-same, ids-body, lead-body, part-body, pre-id, shape-at}
+use Rattle.pn_ranges.proofs.Same.{all-weaken, behind-all, build-id, comparator-shape, digit-body, end-body, head-same, ids-body, lead-body, part-body, pre-id, shape-at}
 use Rattle.pn_ranges.proofs.Steps.{fault-step}
-use Rattle.pn_ranges.proofs.Words.{and_left, and_right}
+use Rattle.pn_ranges.proofs.Words.{and_false, and_left, and_right}
 
 -- a fault behind bytes of the same version
 pub inside-behind : (text front rest : List ℕ) (n : ℕ) → text ≡ front ++ rest → list_all is_body front ≡ true → length (behind is_body rest) ≤ n → length (behind is_body text) ≤ n
@@ -34,17 +34,11 @@ part-inside text rest a n f h = inside-behind text f.front rest n f.split (part-
 pub byte-inside : (text rest : List ℕ) (b n : ℕ) → text ≡ b ∷ rest → is_body b ≡ true → length (behind is_body rest) ≤ n → length (behind is_body text) ≤ n
 byte-inside text rest b n e i h = inside-behind text (b ∷ []) rest n e (rw i refl) h
 
-pub pre-inside : (text rest : List ℕ) (n : ℕ) → Spanned is_pre_identifier text rest → length (behind is_body rest) ≤ n → length (behind is_body text) ≤ n
-pre-inside text rest n f h = inside-behind text f.front rest n f.split (pre-id f.front f.passes) h
-
 pub pres-inside : (text rest : List ℕ) (n : ℕ) → Fronted (AreIdentifiers is_pre_identifier) text rest → length (behind is_body rest) ≤ n → length (behind is_body text) ≤ n
 pres-inside text rest n f h = inside-behind text f.front rest n f.split (ids-body is_pre_identifier pre-id f.front f.is) h
 
 pub builds-inside : (text rest : List ℕ) (n : ℕ) → Fronted (AreIdentifiers is_build_identifier) text rest → length (behind is_body rest) ≤ n → length (behind is_body text) ≤ n
 builds-inside text rest n f h = inside-behind text f.front rest n f.split (ids-body is_build_identifier build-id f.front f.is) h
-
-digit-body : (b : ℕ) → is_digit b ≡ true → is_body b ≡ true
-digit-body b h = grind (arith, nat_tests)
 
 pub digits-inside : (text rest : List ℕ) (b : ℕ) → text ≡ b ∷ rest → (b == 48) ≡ true → length (behind is_body text) ≤ length (behind is_digit rest)
 digits-inside text rest b e z =
@@ -74,18 +68,13 @@ number-same (c ∷ t) n b r y h = elim (cases_Bool (is_digit c)) [
   | inr other ↦ rw other refl
 ]
 
-and-no : (x y z : Bool) → z ≡ false → (x && y && z) ≡ false
-and-no true true z h = h
-and-no true false z h = refl
-and-no false y z h = refl
-
 none-number : (b : ℕ) (r : List ℕ) → is_digit b ≡ false → nat_le (2 ^ 64) (number_at (b ∷ r)) ≡ false
 none-number b r h = let e : number_at (b ∷ r) ≡ 0 = number-stops 0 (b ∷ r) h in rw e refl
 
 pub past : (u : List ℕ) (s : State) (b : ℕ) (r y : List ℕ) → is_digit b ≡ false → accepts s (u ++ b ∷ y) ≡ true → (q : State) × (first_fault s (u ++ b ∷ r) ≡ first_fault q r)
 past [] s b r y d h = elim (step s b) as (λ o. step s b ≡ o → on_some o (λ n. small s n (b ∷ y) && accepts n y) ≡ true → (q : State) × (first_fault s (b ∷ r) ≡ first_fault q r)) [
   | None ↦ λ e k. absurd (let w : false ≡ true = k in cc)
-  | Some n ↦ λ e k. (n, fault-step s n b r e (and-no (is_digits n) (not (is_digits s)) (nat_le (2 ^ 64) (number_at (b ∷ r))) (none-number b r d)))
+  | Some n ↦ λ e k. (n, fault-step s n b r e (and_false (is_digits n && not (is_digits s)) (nat_le (2 ^ 64) (number_at (b ∷ r))) (none-number b r d)))
 ] refl h
 past (c ∷ u) s b r y d h =
     elim (step s c) as (λ o. step s c ≡ o → on_some o (λ n. small s n (c ∷ (u ++ b ∷ y)) && accepts n (u ++ b ∷ y)) ≡ true
@@ -93,34 +82,25 @@ past (c ∷ u) s b r y d h =
       | None ↦ λ e k. absurd (let w : false ≡ true = k in cc)
       | Some n ↦ λ e k.
           let i = past u n b r y d (and_right (small s n (c ∷ (u ++ b ∷ y))) (accepts n (u ++ b ∷ y)) k) in
-          let fits : is_large s n (c ∷ (u ++ b ∷ y)) ≡ false = not-large (is_large s n (c ∷ (u ++ b ∷ y))) (and_left (small s n (c ∷ (u ++ b ∷ y))) (accepts n (u ++ b ∷ y)) k) in
+          let fits : is_large s n (c ∷ (u ++ b ∷ y)) ≡ false = not-yes (is_large s n (c ∷ (u ++ b ∷ y))) (and_left (small s n (c ∷ (u ++ b ∷ y))) (accepts n (u ++ b ∷ y)) k) in
           let same : is_large s n (c ∷ (u ++ b ∷ r)) ≡ is_large s n (c ∷ (u ++ b ∷ y)) =
           ap (λ z. is_digits n && not (is_digits s) && nat_le (2 ^ 64) z) (number-same (c ∷ u) 0 b r y d) in
           (i.0, fault-step s n c (u ++ b ∷ r) e (same ∙ fits) ∙ i.1)
-    ] refl h where
-      not-large : (a : Bool) → not a ≡ true → a ≡ false
-      not-large true h = cc h
-      not-large false h = refl
+    ] refl h
 
 pub accepted : (text : List ℕ) (s : State) → accepts s text ≡ true → first_fault s text ≡ None
 accepted [] s h = rw h refl
 accepted (b ∷ rest) s h = elim (step s b) as (λ o. step s b ≡ o → on_some o (λ n. small s n (b ∷ rest) && accepts n rest) ≡ true → first_fault s (b ∷ rest) ≡ None) [
   | None ↦ λ e k. absurd (let w : false ≡ true = k in cc)
   | Some n ↦ λ e k.
-      fault-step s n b rest e (not-large (is_large s n (b ∷ rest)) (and_left (small s n (b ∷ rest)) (accepts n rest) k))
+      fault-step s n b rest e (not-yes (is_large s n (b ∷ rest)) (and_left (small s n (b ∷ rest)) (accepts n rest) k))
       ∙ accepted rest n (and_right (small s n (b ∷ rest)) (accepts n rest) k)
-] refl h where
-  not-large : (a : Bool) → not a ≡ true → a ≡ false
-  not-large true h = cc h
-  not-large false h = refl
+] refl h
 
 pub left-within : (n : ℕ) (s : Stop) → IsLeftOf n s → left_of s ≤ n
 left-within n (stop.Byte k) h = h
 left-within n (stop.Number k) h = h
 left-within n stop.Memory h = omega arith
-
-pub stop-digit : (b : ℕ) → is_stop b ≡ true → is_digit b ≡ false
-stop-digit b h = grind (arith, nat_tests)
 
 -- what may stand behind a version
 record Behind (b : ℕ) : Type 0 where

@@ -27,10 +27,6 @@ pub start-comparator : (text : List ℕ) → starts_with is_space text ≡ false
 start-comparator [] s e = cc e
 start-comparator (b ∷ rest) s e = rw (s, e) refl
 
-pub gap-closed : (h : Bool) (text : List ℕ) → starts_with is_space text ≡ false → ends_range text ≡ true → first_fault (gap h) text ≡ first_fault closed text
-gap-closed h [] s e = refl
-gap-closed h (b ∷ rest) s e = rw (s, e) refl
-
 pub start-closed : (text : List ℕ) → starts_with is_space text ≡ false → ends_range text ≡ true → first_fault start text ≡ first_fault closed text
 start-closed [] s e = refl
 start-closed (b ∷ rest) s e = rw (s, e) refl

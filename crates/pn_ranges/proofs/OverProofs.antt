@@ -146,7 +146,7 @@ shut b = not (is_open b)
 lead-shut : (b : ℕ) → is_lead b ≡ true → shut b ≡ true
 lead-shut b h = grind (arith, nat_tests)
 
-space-shut : (b : ℕ) → is_space b ≡ true → shut b ≡ true
+pub space-shut : (b : ℕ) → is_space b ≡ true → shut b ≡ true
 space-shut b h = grind (arith, nat_tests)
 
 leads-shut : (t : List ℕ) → list_all is_lead t ≡ true → list_all shut t ≡ true

@@ -19,7 +19,7 @@ use Rattle.pn_ranges.proofs.Bars.{no-tail, no_bar, spaced-bars, tail-of}
 use Rattle.pn_ranges.proofs.Closings.{between-upper, closes-body, closes-spaces, gap-body}
 use Rattle.pn_ranges.proofs.Counts.{bars-split, comparator-open, end-open, hyphen-split, more-split, not-hyphen, same-first}
 use Rattle.pn_ranges.proofs.Fronts.{behind-append, behind-le, front-all, front-behind}
-use Rattle.pn_ranges.proofs.OverProofs.{shut}
+use Rattle.pn_ranges.proofs.OverProofs.{shut, space-shut}
 use Rattle.pn_ranges.proofs.Same.{Same, Shape, all-weaken, bare, behind-all, comparator-shape, end-shape, first-more, first-not, head-same, partial-first, same-end, same-fit, same-shape, same-split, shape-at, upper-bare}
 
 -- from a part of a version on
@@ -71,9 +71,6 @@ part-is t from rest n k p =
     from-is p.partial from rest k p.part
     ∙ ap (from_part k) (sym (behind-all shut p.before (p.partial ++ rest) p.outside (first-not is_open shut (p.partial ++ rest) (first-more is_open p.partial rest (partial-first p.partial n p.is)) open-shut))
     ∙ ap (behind shut) (sym (append_assoc p.before p.partial rest) ∙ ap (λ z. z ++ rest) (sym p.split)))
-
-space-shut : (b : ℕ) → is_space b ≡ true → shut b ≡ true
-space-shut b h = grind (arith, nat_tests)
 
 spaces-past : (t : List ℕ) → behind shut (behind is_space t) ≡ behind shut t
 spaces-past [] = refl
@@ -143,7 +140,7 @@ onward _ y r s n _ (u.more t p v z m to c fit a w) k h e =
     let q = same-begun y r t (p ++ v) s z n m k h c (gap-body p v a) e in
     more v (same-fit s z n m r (p ++ v) q ∙ fit) w (sym (behind-append is_space p v a.spaces) ∙ ap (behind is_space) (sym q.rest))
 
-both : (b : Bool) → b ≡ true → b ≡ false → ⊥
+pub both : (b : Bool) → b ≡ true → b ≡ false → ⊥
 both true h k = cc k
 both false h k = cc h
 

@@ -17,7 +17,7 @@ use Rattle.pn_ranges.proofs.Fronts.{behind-append, behind-same, behind-stops}
 use Rattle.pn_ranges.proofs.OverProofs.{all-append}
 use Rattle.pn_ranges.proofs.Words.{and_left, and_right}
 
-digit-body : (b : ℕ) → is_digit b ≡ true → is_body b ≡ true
+pub digit-body : (b : ℕ) → is_digit b ≡ true → is_body b ≡ true
 digit-body b h = grind (arith, nat_tests)
 
 wild-body : (b : ℕ) → is_wild b ≡ true → is_body b ≡ true
@@ -361,9 +361,6 @@ is_mark b = (b == 45) || (b == 124)
 
 head-mark : (b : ℕ) → is_head b ≡ true → is_mark b ≡ false
 head-mark b h = grind (arith, nat_tests)
-
-pub end-mark : (t r : List ℕ) (n : Named) → IsEnd t n → starts_with is_mark (behind is_space (t ++ r)) ≡ false
-end-mark t r n i = ap (starts_with is_mark) (head-same t r n i) ∙ first-not is_head is_mark (t ++ r) (first-more is_head t r (end-first t n i)) head-mark
 
 pub comparator-mark : (t : List ℕ) (s : Sign) (n : Named) → IsComparator t s n → (r : List ℕ) → starts_with is_mark (behind is_space (t ++ r)) ≡ false
 comparator-mark _ s n (g.comparator _ p t _ _ g.absent a i j) r =

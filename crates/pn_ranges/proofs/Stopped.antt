@@ -27,6 +27,7 @@ use Rattle.pn_ranges.proofs.Follow.{Digits, Rest, RestOf}
 use Rattle.pn_ranges.proofs.Follow as w
 use Rattle.pn_ranges.proofs.FollowParts.{build-step, digits-step, end-step, hyphen-step, naught-step, part-step, plus-step, pre-step-on, whole-step, zeros-step}
 use Rattle.pn_ranges.proofs.FollowRanges.{bar-step, closed-step, dash-step, equal-step, far-step, gap-step, operand-step, sign-step, start-step}
+use Rattle.pn_ranges.proofs.Words.{and_false}
 
 -- a text in which the automaton stops behind so many bytes
 data StopsIn : State → List ℕ → ℕ → Type 0 where
@@ -231,11 +232,6 @@ one-digit b = elim (cases_Bool (is_digit b)) [
   small : (b : ℕ) → is_digit b ≡ true → nat_le (2 ^ 64) (0 * 10 + (b - 48)) ≡ false
   small b h = grind (arith, nat_tests)
 
-and-no : (x y z : Bool) → z ≡ false → (x && y && z) ≡ false
-and-no true true z h = h
-and-no true false z h = refl
-and-no false y z h = refl
-
 no-text : (s : State) → is_digits s ≡ true → Rest s [] []
 no-text (p.digits e k) h = record { rest = []; split = refl; whole = w.ends k [] (w.closed e [] w.ends) }
 no-text s h = cc h
@@ -253,7 +249,7 @@ large-digits false b c h = cc h
 to-digit : (s : State) (text : List ℕ) (at : ℕ) → LargeIn s text at → (u : List ℕ) × Rest s text (take (at + 1) text ++ u)
 to-digit s _ _ (here _ next b rest e l) =
     let d = large-digits (is_digits next) (is_digits s) (nat_le (2 ^ 64) (number_at (b ∷ rest))) l in
-    let small : (n : State) → step s b ≡ Some n → is_large s n (b ∷ []) ≡ false = λ n h. and-no (is_digits n) (not (is_digits s)) (nat_le (2 ^ 64) (number_at (b ∷ []))) (one-digit b) in
+    let small : (n : State) → step s b ≡ Some n → is_large s n (b ∷ []) ≡ false = λ n h. and_false (is_digits n && not (is_digits s)) (nat_le (2 ^ 64) (number_at (b ∷ []))) (one-digit b) in
     ([], any-text s (b ∷ []) (b ∷ rest) (b ∷ []) d.1 (rest-step s b [] [] small (subst (λ o. RestOf o [] []) (sym e) (no-text next d.0))))
 to-digit s _ _ (later _ next b at rest e l i) =
     let k = to-digit next rest at i in

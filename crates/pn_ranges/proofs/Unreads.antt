@@ -25,16 +25,12 @@ use Rattle.pn_ranges.proofs.Faults.{fault-left}
 use Rattle.pn_ranges.proofs.Fronts.{behind-append, behind-same}
 use Rattle.pn_ranges.proofs.Inside.{past}
 use Rattle.pn_ranges.proofs.Passes.{forms-go}
-use Rattle.pn_ranges.proofs.Reached.{FirstTo, first-more-ranges, first-over, first-unique, later-begun, later-open, later-over, lower-not, onward, over, last, more, range-read, same-begun, upper-is}
+use Rattle.pn_ranges.proofs.Reached.{FirstTo, both, first-more-ranges, first-over, first-unique, later-begun, later-open, later-over, lower-not, onward, over, last, more, range-read, same-begun, upper-is}
 use Rattle.pn_ranges.proofs.Same.{Shape, behind-all, comparator-shape, head-same, same-end, same-split, upper-bare}
 
 -- the comparator at the front
 spaced-shape : (text rest : List ℕ) (s : Sign) (n : Named) (a : SpacedAt text s n rest) → Shape text s n (a.spaces ++ rest)
 spaced-shape text rest s n a = subst (λ z. Shape z s n (a.spaces ++ rest)) (sym a.split) (comparator-shape a.front s n a.read (a.spaces ++ rest))
-
-both : (b : Bool) → b ≡ true → b ≡ false → ⊥
-both true h k = cc k
-both false h k = cc h
 
 same-rest : (text rest : List ℕ) → text ≡ rest → starts_with is_space rest ≡ false → behind is_space text ≡ rest
 same-rest text rest e h = ap (behind is_space) e ∙ behind-same is_space rest h
@@ -52,10 +48,6 @@ range-none text sp some none = never where
   never other to (u.comparators _ _ l w) e = later-none text sp none other to w e
   never _ to (u.upper a s v n _ i p w) e =
       none a (s ++ 45 ∷ v) x.Exact n (end-comparator a n i) (gap-body s (45 ∷ v) p) (sym (same-rest text text refl sp) ∙ sym e)
-
--- a comparator of which a limit is raised
-pub over-later : (text rest : List ℕ) (left : ℕ) → OverAt text rest left → OverLater text left
-over-later text rest left a = o.here text rest left a
 
 -- a comparator more
 later-rest : (spaces rest : List ℕ) → AreSpaces spaces → behind is_space (spaces ++ rest) ≡ behind is_space rest
@@ -125,9 +117,6 @@ no-lower text rest z n k sp h = λ s a p r m b i q e.
     let fault : first_fault y.0 r ≡ Some (stop.Byte (length (45 ∷ r))) = sym y.1 ∙ ap (first_fault start) (line ∙ sym e) ∙ h ∙ ap (first_fault (gap false)) is in
     let left = fault-left r y.0 (stop.Byte (length (45 ∷ r))) fault in
     omega arith
-
-pub over-range : (text : List ℕ) (left : ℕ) → NoLower text → OverLater text left → OverRange text left
-over-range text left low w = o.comparators text left low w
 
 pub later-range : (text : List ℕ) → starts_with is_space text ≡ false → ends_range text ≡ false → NoLower text → NeverTo LaterTo text → NeverTo RangeTo text
 later-range text st some low none = never where

@@ -1,11 +1,12 @@
 use Rattle.std.proofs.Common.{sym, ◌∙◌, false}
 use Rattle.pn_ranges.specs.Edges.{named_by}
 use Rattle.pn_ranges.specs.Overs.{OverRange}
+use Rattle.pn_ranges.specs.Overs as o
 use Rattle.pn_ranges.specs.Places.{dash, first, first_fault, gap, start}
 use Rattle.pn_ranges.specs.Table.{limits, raised}
 use Rattle.pn_ranges.specs.Unread.{NeverTo, RangeTo}
 use Rattle.pn_ranges.proofs.Joins.{exit_by, first-read, gap-same, hyphen-length, memory-stops, over-stops, push-empty, range-comparators, range-empty, range-hyphen, start-closed, start-comparator, start-dash, stops-fault, stops-from, with-first}
-use Rattle.pn_ranges.proofs.Unreads.{hyphen-none, hyphen-over, later-more, later-range, no-lower, over-more, over-range, range-none}
+use Rattle.pn_ranges.proofs.Unreads.{hyphen-none, hyphen-over, later-more, later-range, no-lower, over-more, range-none}
 use Rattle.pn_ranges.proofs.range.range_at.Goals as goal
 
 pub returns-in_err-push_edges-clause-stops : goal.returns-in_err-push_edges-clause-stops
@@ -65,7 +66,7 @@ returns-in_err-push_comparator-clause-stops c =
     let goes = start-comparator t c.requires.spaces some ∙ q.goes first c.requires.spaces ∙ gap-same c.in_ok-comparator.comparator.plain c.in_ok-comparator.rest.now q.spaces c.in_default.ensures in
     exit_by (OverRange t) (NeverTo RangeTo t) (first_fault start t) _ _ c.from_residual-in_err-push_comparator.ensures.1
     (over-stops (OverRange t) (NeverTo RangeTo t) (first_fault start t) (limits x (named_by p)) (raised x (named_by p)) p _
-    (λ fit. over-range t _ (no-lower t c.in_ok-comparator.rest.now x (named_by p) q.read q.spaces goes) (q.over fit))
+    (λ fit. o.comparators t _ (no-lower t c.in_ok-comparator.rest.now x (named_by p) q.read q.spaces goes) (q.over fit))
     c.in_err-push_comparator.ensures.err)
 
 pub returns-in_err-count-clause-stops : goal.returns-in_err-count-clause-stops
@@ -80,7 +81,7 @@ returns-in_err-count-clause-stops c =
     (stops-from (first_fault start t) (first_fault (gap false) c.in_ok-comparator.rest.now) _ goes
     (λ none. later-range t c.requires.spaces some low
     (later-more t c.in_ok-comparator.rest.now p.sign (named_by p.partial) q.read q.spaces c.in_ok-push_comparator.ensures.fit none))
-    (λ left h. over-range t left low (over-more t c.in_ok-comparator.rest.now p.sign (named_by p.partial) q.read q.spaces c.in_ok-push_comparator.ensures.fit left h))
+    (λ left h. o.comparators t left low (over-more t c.in_ok-comparator.rest.now p.sign (named_by p.partial) q.read q.spaces c.in_ok-push_comparator.ensures.fit left h))
     c.in_err-count.ensures.stops)
 
 pub returns-clause-read : goal.returns-clause-read
