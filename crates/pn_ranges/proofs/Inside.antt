@@ -1,5 +1,5 @@
 -- Faults that stand within a version: no version is read there.
-use Rattle.std.proofs.Common.{◌≡◌, ◌≤◌, ◌^◌, ◌*◌, ◌+◌, ◌-◌, ℕ, Bool, true, false, List, [], ◌∷◌, ◌++◌, length, Option, Some, None, Result, Ok, Err, IfErr, OnErr, refl, sym, ap, subst, ◌∙◌, arith, inl, inr}
+use Rattle.std.proofs.Common.{◌≡◌, ◌≤◌, ◌^◌, ◌*◌, ◌+◌, ◌-◌, ℕ, true, false, List, [], ◌∷◌, ◌++◌, length, Option, Some, None, Result, Ok, Err, IfErr, OnErr, refl, sym, ap, subst, ◌∙◌, arith, inl, inr}
 use Rattle.std.specs.Prelude.{◌==◌, ◌&&◌, not, nat_le}
 use Rattle.std.specs.List.{list_all}
 use Rattle.std.specs.Result.{IsErrAnd}
@@ -9,7 +9,7 @@ use Rattle.semver.specs.Grammar.{is_build_identifier, is_pre_identifier}
 use Rattle.pn_ranges.specs.declared.fault.Stop.{Stop}
 use Rattle.pn_ranges.specs.declared.fault.Stop.TheVariants as stop
 use Rattle.pn_ranges.specs.Bytes.{is_body, is_digit, is_lead, is_space, is_stop, behind, front_of, number_at, number_from, starts_with}
-use Rattle.pn_ranges.specs.Grammar.{AreIdentifiers, Begins, Fronted, IsEnd, IsPart, Spanned}
+use Rattle.pn_ranges.specs.Grammar.{AreIdentifiers, Begins, Fronted, IsEnd, IsPart}
 use Rattle.pn_ranges.specs.Places.{State, lead, later, step, after_step, is_digits, is_large, fault_after, first_fault}
 use Rattle.pn_ranges.specs.Reading.{left_of, signed}
 use Rattle.pn_ranges.specs.Refusals.{IsLeftOf}
