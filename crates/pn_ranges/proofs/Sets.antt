@@ -103,11 +103,14 @@ back n m h = omega arith
 pub refused-from : (text : List ℕ) (s : Stop) → Stops (HasOver text) (NoOver text) (first_fault start text) s → RangeRefused text (refusal_of (length text) s)
 refused-from text (stop.Byte n) h =
     let l : n ≤ length text = fault-left text start (stop.Byte n) h.0 in
-    record { within = omega arith; first = h.0 ∙ ap (λ z. Some (stop.Byte z)) (sym (back n (length text) l)); fit = h.1 }
+    record { byte = record { within = omega arith; first = h.0 ∙ ap (λ z. Some (stop.Byte z)) (sym (back n (length text) l)) }; fit = h.1 }
 refused-from text (stop.Number n) h =
     let l : n ≤ length text = stops-left text (stop.Number n) h in
     let e = sym (back n (length text) l) in
-    record { within = omega arith; large = elim h [ inl f ↦ inl (f.0 ∙ ap (λ z. Some (stop.Number z)) e, f.1) | inr o ↦ inr (subst (λ z. HasOver text z) e o) ] }
+    elim h [
+      | inl f ↦ inl (record { within = omega arith; first = f.0 ∙ ap (λ z. Some (stop.Number z)) e }, f.1)
+      | inr o ↦ inr (record { within = omega arith; raised = subst (λ z. HasOver text z) e o })
+    ]
 refused-from text stop.Memory h = tt
 
 pub any-map : {A B : Type 0} (f : B → Bool) (m : A → B) (xs : List A) → list_any f (map m xs) ≡ list_any (λ x. f (m x)) xs

@@ -12,9 +12,8 @@ use Rattle.pn_ranges.specs.Limits.{Limit}
 use Rattle.pn_ranges.specs.PlaceLaw.{IsLongAt, StopsAt, PlaceLaw}
 use Rattle.pn_ranges.specs.Places.{State, Turn, step, may_end, is_digits, is_large, on_step, first_fault}
 use Rattle.pn_ranges.specs.Places as p
-use Rattle.pn_ranges.specs.Refusals.{HasBadByte, HasLargeNumber}
-use Rattle.pn_ranges.specs.Overs.{HasOver}
-use Rattle.std.specs.Prelude.{nat_le, not, ◌&&◌, ◌⊎◌}
+use Rattle.pn_ranges.specs.Refusals.{StopsByte, StopsNumber}
+use Rattle.std.specs.Prelude.{nat_le, not, ◌&&◌}
 use Rattle.std.proofs.Common.{◌^◌, ◌*◌, ◌≤◌, Bool, drop}
 use Rattle.std.proofs.lemmas.Bool.{leb-true}
 use Rattle.std.proofs.lemmas.Bool.Decides.{nat_tests}
@@ -165,7 +164,7 @@ pub ranges-form : (t : List ℕ) (k : ℕ) (ls : List (List Limit)) → AreRange
 ranges-form _ _ _ (g.one s t r k ls a i b) = f.one s t r a (range-form t k ls i) b
 ranges-form _ _ _ (g.more s t r u k m ls lss a i b c) = f.more s t r u a (range-form t k ls i) b (ranges-form u m lss c)
 
-goes-on : (text : List ℕ) (at : ℕ) → HasBadByte text at → StopsAt text at
+goes-on : (text : List ℕ) (at : ℕ) → StopsByte text at → StopsAt text at
 goes-on text at h =
     let s = stopped text p.start (length text - at) h.first in
     let same : s.at ≡ at = let a = s.split in let b = h.within in omega arith in
@@ -268,8 +267,8 @@ long-at text at h e =
     let i : LargeIn p.start text at = subst (LargeIn p.start text) same s.is in
     record { front = to-digit p.start text at i; long = leb-true (2 ^ 64) (number_at (drop at text)) (long p.start text at i) }
 
-numbered : (text : List ℕ) (at : ℕ) → HasLargeNumber text at → IsLongAt text at ⊎ HasOver text (length text - at)
-numbered text at h = elim h.large [ inl e ↦ inl (long-at text at h.within e.0) | inr o ↦ inr o ]
+numbered : (text : List ℕ) (at : ℕ) → StopsNumber text at → IsLongAt text at
+numbered text at h = long-at text at h.within h.first
 
 pub place : PlaceLaw
 place = record { form = ranges-form; place = goes-on; number = numbered }
