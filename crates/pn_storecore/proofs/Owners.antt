@@ -14,7 +14,7 @@ use Rattle.pn_storecore.proofs.Keys.{at_number, none_some}
 use Rattle.pn_storecore.proofs.Changes.{file_shards, listing_shards}
 use Rattle.pn_storecore.proofs.Published.{files_stay}
 
-owns_none : (o : Option Temp) (me : ℕ) → option_map (λ (t : Temp). t.owner) o ≡ Some me → o ≢ None
+pub owns_none : (o : Option Temp) (me : ℕ) → option_map (λ (t : Temp). t.owner) o ≡ Some me → o ≢ None
 owns_none None me h = cc
 owns_none (Some t) me h = λ e. cc
 
@@ -25,7 +25,7 @@ other_number w k q who me t theirs mine apart = elim (at_number w.temps k t q) [
   | inr other ↦ other.1
 ]
 
-claim_keeps : (w : World) (who k q : ℕ) (o : Option Temp) → w.temps k ≡ o → w.temps q ≢ None → (claimed who k w o).temps q ≡ w.temps q
+pub claim_keeps : (w : World) (who k q : ℕ) (o : Option Temp) → w.temps k ≡ o → w.temps q ≢ None → (claimed who k w o).temps q ≡ w.temps q
 claim_keeps w who k q None free mine = elim (at_number w.temps k (Some (claimed_by who)) q) [
   | inl here ↦ absurd (mine (sym (ap w.temps here.0) ∙ free))
   | inr other ↦ other.1
@@ -100,11 +100,11 @@ owners = record {
   undropped = undropped_keep;
 }
 
-shards_stay : (w : World) (steps : Journal) → AreLawful w steps → (first : ℕ) → w.files.shards first ≡ true → (world_after w steps).files.shards first ≡ true
+pub shards_stay : (w : World) (steps : Journal) → AreLawful w steps → (first : ℕ) → w.files.shards first ≡ true → (world_after w steps).files.shards first ≡ true
 shards_stay w [] h first e = e
 shards_stay w (s ∷ ss) h first e = shards_stay (after s.0 s.1 w) ss h.1 first (file_shards w s.0 s.1 h.0 first e)
 
-listing_shards_stay : (w : World) (steps : Journal) → AreLawful w steps → (first : ℕ) → w.listings.shards first ≡ true → (world_after w steps).listings.shards first ≡ true
+pub listing_shards_stay : (w : World) (steps : Journal) → AreLawful w steps → (first : ℕ) → w.listings.shards first ≡ true → (world_after w steps).listings.shards first ≡ true
 listing_shards_stay w [] h first e = e
 listing_shards_stay w (s ∷ ss) h first e = listing_shards_stay (after s.0 s.1 w) ss h.1 first (listing_shards w s.0 s.1 h.0 first e)
 

@@ -77,6 +77,10 @@ pub files_stay : (w : World) (steps : Journal) → AreLawful w steps → (at : L
 files_stay w [] h at stood = stood
 files_stay w (e ∷ es) h at stood = files_stay (after e.0 e.1 w) es h.1 at (stays w.files (after e.0 e.1 w).files (files_change w e.0 e.1 h.0) at stood)
 
+pub listings_stay : (w : World) (steps : Journal) → AreLawful w steps → (at : List ℕ) → Stands w.listings at → Stands (world_after w steps).listings at
+listings_stay w [] h at stood = stood
+listings_stay w (e ∷ es) h at stood = listings_stay (after e.0 e.1 w) es h.1 at (stays w.listings (after e.0 e.1 w).listings (listings_change w e.0 e.1 h.0) at stood)
+
 pub published : PublishedLaw
 published = record {
   files = keeps_files;

@@ -10,3 +10,5 @@ pub mod Kept
 pub mod Sets
 pub mod Told
 pub mod Came
+pub mod Held
+pub mod CallLaws

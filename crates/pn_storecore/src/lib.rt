@@ -26,7 +26,9 @@ mod world;
 pub use bytes::Bytes;
 pub use conditions::FILE_LIMIT;
 pub use disk::StoreDisk;
-pub use laws::{owner_law, place_law, published_law, sound_law};
+pub use laws::{
+    asks_law, holds_law, leaves_law, owner_law, place_law, published_law, sound_law, stands_law,
+};
 pub use mem::MemStore;
 pub use step::{Discard, Place, StoreStep};
 pub use sure::SureStore;
