@@ -1,7 +1,9 @@
 -- What an installer holds and knows, after its calls.
 use Rattle.std.proofs.Common.{◌≡◌, ◌≢◌, ℕ, ◌≤◌, Bool, true, false, List, [], ◌∷◌, ◌++◌, length, take, refl, sym, ap, ◌∙◌, subst, ◌⊎◌, inl, inr, Some, None, Ok, Err}
-use Rattle.std.specs.Prelude.{Option, Result, cond, nat_eq}
+use Rattle.std.specs.Prelude.{Option, Result, IfOk, OnOk, OnErr, cond, nat_eq}
+use Rattle.std.specs.Bool.{OnTrue}
 use Rattle.std.specs.Option.{option_map, option_and_then}
+use Rattle.std.proofs.lemmas.Map.{update-update}
 use Rattle.sha2.specs.Sha512.{sha512}
 use Rattle.pn_text.specs.declared.fault.DevFault.{DevFault}
 use Rattle.pn_digest.specs.Listing.{IsListingText, Names}
@@ -101,9 +103,9 @@ made_now old new x s k files g here holds =
     let mine = (old.me, s) ∷ [] in
     held_now old new x mine k (files_after s files) g (step_in (before old new x mine g) s k old.me files here (held_before old new x mine k files g holds))
 
-none_two : (b : Bool) (o : Option (List ℕ)) → cond b None (cond b o None) ≡ None
-none_two true o = refl
-none_two false o = refl
+none_none : (b : Bool) (o : Option (List ℕ)) → cond b o o ≡ o
+none_none true o = refl
+none_none false o = refl
 
 -- what is so of the one journal that is told
 told_once : (P : Journal → Type 0) (o : Option Journal) (y : Journal) → o ≡ Some y → P y → (x : Journal) → o ≡ Some x → P x
@@ -119,28 +121,51 @@ untold P o is x told = let clash : Some x ≡ None = sym told ∙ is in cc
 abbrev HasFiles : Seen → ℕ → TempFiles → Journal → Type 0
 HasFiles s k files j = (world_of j).temps k ≡ Some (folder s.me files)
 
-pub holds : HoldsLaw
-holds = record {
-  claimed = λ old new k kept h x told.
-      let g = grown true (λ made. made ≡ Claim k) (IsClaim k) old new (Claim k) x kept h told in
-      let mine = (old.me, Claim k) ∷ [] in
-      held_now old new x mine k no_files g.0 (owners.free (before old new x mine g.0) old.me k g.1);
-  made = λ old new own k files kept here h holds x told. made_now old new x own k files (grown {T = Unit {0}} tt (λ made. made ≡ own) (λ w answer. Unit {0}) old new own x kept h told).0 here holds;
-  refused = λ old new own k files e kept here h holds. by_told (Holds new k files ⊎ Holds new k (files_after own files)) new
+module _ (old new : Seen) (kept : Keeps old new) (k : ℕ) (files : TempFiles) where
+  made_ok : (own : StoreStep) (r : Result (Unit {0}) DevFault) → IsIn k own → Does old own new r → Holds old k files → OnOk r (Holds new k (files_after own files))
+  made_ok own (Err e) here h holds = tt
+  made_ok own (Ok v) here h holds = λ x told. made_now old new x own k files (grown v (λ made. made ≡ own) (λ w answer. Unit {0}) old new own x kept h told).0 here holds
+
+  made_err : (own : StoreStep) (r : Result (Unit {0}) DevFault) → IsIn k own → Does old own new r → Holds old k files → OnErr r (Holds new k files ⊎ Holds new k (files_after own files))
+  made_err own (Ok v) here h holds = tt
+  made_err own (Err e) here h holds = by_told (Holds new k files ⊎ Holds new k (files_after own files)) new
       (λ none. inl (untold (HasFiles new k files) new.journal none))
       (λ y is. elim (grown_once {T = Unit {0}} (Err e) (λ w answer. Unit {0}) old new own y kept h is) [
         | inl g ↦ inl (told_once (HasFiles new k files) new.journal y is (kept_now old new y k files g holds))
         | inr g ↦ inr (told_once (HasFiles new k (files_after own files)) new.journal y is (made_now old new y own k files g here holds))
-      ]);
-  appended = λ old new k n more files kept h holds x told. made_now old new x (Append k n more) k files (grown {T = Unit {0}} tt (IsFront k n more) (λ w answer. Unit {0}) old new (Append k n more) x kept h told).0 refl holds;
-  append_refused = λ old new k n more files e kept h holds.
-      by_told (Holds new k files ⊎ ((i : ℕ) × (i ≤ length more) × Holds new k (files_after (Append k n (take i more)) files))) new
+      ])
+
+  appended_ok : (n : ℕ) (more : List ℕ) (r : Result (Unit {0}) DevFault) → Appends old k n more new r → Holds old k files → OnOk r (Holds new k (files_after (Append k n more) files))
+  appended_ok n more (Err e) h holds = tt
+  appended_ok n more (Ok v) h holds = λ x told. made_now old new x (Append k n more) k files (grown v (IsFront k n more) (λ w answer. Unit {0}) old new (Append k n more) x kept h told).0 refl holds
+
+  appended_err : (n : ℕ) (more : List ℕ) (r : Result (Unit {0}) DevFault) → Appends old k n more new r → Holds old k files
+      → OnErr r (Holds new k files ⊎ ((i : ℕ) × (i ≤ length more) × Holds new k (files_after (Append k n (take i more)) files)))
+  appended_err n more (Ok v) h holds = tt
+  appended_err n more (Err e) h holds = by_told (Holds new k files ⊎ ((i : ℕ) × (i ≤ length more) × Holds new k (files_after (Append k n (take i more)) files))) new
       (λ none. inl (untold (HasFiles new k files) new.journal none))
       (λ y is. elim (grown_front (Err e) old new k n more y kept h is) [
         | inl g ↦ inl (told_once (HasFiles new k files) new.journal y is (kept_now old new y k files g holds))
         | inr part ↦
             let now = files_after (Append k n (take part.0 more)) files in
             inr (part.0, part.1, told_once (HasFiles new k now) new.journal y is (made_now old new y (Append k n (take part.0 more)) k files part.2 refl holds))
-      ]);
-  emptied = λ n bytes m. none_two (nat_eq n m) bytes;
+      ])
+
+claimed_ok : (old new : Seen) (k : ℕ) (r : Result Bool DevFault) → Keeps old new → Answers old (Claim k) new r (IsClaim k) → IfOk r (λ free. OnTrue free (Holds new k no_files))
+claimed_ok old new k (Err e) kept h = tt
+claimed_ok old new k (Ok false) kept h = tt
+claimed_ok old new k (Ok true) kept h = λ x told.
+    let g = grown true (λ made. made ≡ Claim k) (IsClaim k) old new (Claim k) x kept h told in
+    let mine = (old.me, Claim k) ∷ [] in
+    held_now old new x mine k no_files g.0 (owners.free (before old new x mine g.0) old.me k g.1)
+
+pub holds : HoldsLaw
+holds = record {
+  claimed = claimed_ok;
+  made = λ old new own k files r kept here h holds. made_ok old new kept k files own r here h holds;
+  refused = λ old new own k files r kept here h holds. made_err old new kept k files own r here h holds;
+  appended = λ old new k n more files r kept h holds. appended_ok old new kept k files n more r h holds;
+  append_refused = λ old new k n more files r kept h holds. appended_err old new kept k files n more r h holds;
+  again = λ files n old new i m. update-update nat_eq files n old new m i;
+  emptied = λ n i m. none_none (nat_eq n m) None i;
 }

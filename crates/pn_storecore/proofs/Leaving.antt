@@ -1,6 +1,6 @@
 -- What stands after an installer's call, and what the call leaves.
 use Rattle.std.proofs.Common.{◌≡◌, ◌≢◌, ℕ, ◌≤◌, Bool, true, List, [], ◌∷◌, ◌++◌, take, refl, sym, ap, ◌∙◌, subst, ◌⊎◌, inl, inr, Some, None, Ok, Err, eq-eqb}
-use Rattle.std.specs.Prelude.{Option, Result, ◌==◌, ◌||◌}
+use Rattle.std.specs.Prelude.{Option, Result, OnOk, ◌==◌, ◌||◌}
 use Rattle.std.specs.Option.{ForSome, option_map}
 use Rattle.std.specs.Map.{update}
 use Rattle.std.specs.Str.{bytes_eq}
@@ -34,24 +34,37 @@ shard_stands w who Listings first = first_stands first (w.listings.shards first)
 put_here : (f : List ℕ → Option (List ℕ)) (at : List ℕ) (v : Option (List ℕ)) → update bytes_eq f at v at ≡ v
 put_here f at v = elim (at_address f at v at) [ inl here ↦ here.1 | inr other ↦ absurd (other.0 refl) ]
 
+sharded : (old new : Seen) (place : Place) (first : ℕ) (r : Result (Unit {0}) DevFault) → Keeps old new → Does old (Shard place first) new r → OnOk r (HasShard new place first)
+sharded old new place first (Err e) kept h = tt
+sharded old new place first (Ok v) kept h = λ x told.
+    let g = (grown v (λ made. made ≡ Shard place first) (λ w answer. Unit {0}) old new (Shard place first) x kept h told).0 in
+    let mine = (old.me, Shard place first) ∷ [] in
+    ap (λ w. (objects w place).shards first) (world_now old new x mine g) ∙ shard_stands (before old new x mine g) old.me place first
+
+module _ (old new : Seen) (k n : ℕ) (at bytes : List ℕ) (files : TempFiles) (kept : Keeps old new) (holds : Holds old k files) (some : files n ≡ Some bytes) where
+  filed : (r : Result (Unit {0}) DevFault) → Does old (PublishFile k n at) new r → OnOk r (HasBytes new Files at bytes)
+  filed (Err e) h = tt
+  filed (Ok v) h = λ x told.
+      let s = PublishFile k n at in
+      let g = (grown v (λ made. made ≡ s) (λ w answer. Unit {0}) old new s x kept h told).0 in
+      let mine = (old.me, s) ∷ [] in
+      let w = before old new x mine g in
+      ap (λ (v : World). v.files.bytes at) (world_now old new x mine g) ∙ put_here w.files.bytes at (content w k n) ∙ content_held w k n old.me files (held_before old new x mine k files g holds) ∙ some
+
+  listed : (r : Result (Unit {0}) DevFault) → Does old (PublishListing k n at) new r → OnOk r (HasBytes new Listings at bytes)
+  listed (Err e) h = tt
+  listed (Ok v) h = λ x told.
+      let s = PublishListing k n at in
+      let g = (grown v (λ made. made ≡ s) (λ w answer. Unit {0}) old new s x kept h told).0 in
+      let mine = (old.me, s) ∷ [] in
+      let w = before old new x mine g in
+      ap (λ (v : World). v.listings.bytes at) (world_now old new x mine g) ∙ put_here w.listings.bytes at (content w k n) ∙ content_held w k n old.me files (held_before old new x mine k files g holds) ∙ some
+
 pub stands : StandsLaw
 stands = record {
-  shard = λ old new place first kept h x told.
-      let g = (grown {T = Unit {0}} tt (λ made. made ≡ Shard place first) (λ w answer. Unit {0}) old new (Shard place first) x kept h told).0 in
-      let mine = (old.me, Shard place first) ∷ [] in
-      ap (λ w. (objects w place).shards first) (world_now old new x mine g) ∙ shard_stands (before old new x mine g) old.me place first;
-  file = λ old new k n at bytes files kept h holds some x told.
-      let s = PublishFile k n at in
-      let g = (grown {T = Unit {0}} tt (λ made. made ≡ s) (λ w answer. Unit {0}) old new s x kept h told).0 in
-      let mine = (old.me, s) ∷ [] in
-      let w = before old new x mine g in
-      ap (λ (v : World). v.files.bytes at) (world_now old new x mine g) ∙ put_here w.files.bytes at (content w k n) ∙ content_held w k n old.me files (held_before old new x mine k files g holds) ∙ some;
-  listing = λ old new k n at bytes files kept h holds some x told.
-      let s = PublishListing k n at in
-      let g = (grown {T = Unit {0}} tt (λ made. made ≡ s) (λ w answer. Unit {0}) old new s x kept h told).0 in
-      let mine = (old.me, s) ∷ [] in
-      let w = before old new x mine g in
-      ap (λ (v : World). v.listings.bytes at) (world_now old new x mine g) ∙ put_here w.listings.bytes at (content w k n) ∙ content_held w k n old.me files (held_before old new x mine k files g holds) ∙ some;
+  shard = sharded;
+  file = λ old new k n at bytes files r kept h holds some. filed old new k n at bytes files kept holds some r h;
+  listing = λ old new k n at bytes files r kept h holds some. listed old new k n at bytes files kept holds some r h;
   object = λ s place at bytes h j told. none_some ((objects (world_of j) place).bytes at) bytes (h j told);
 }
 

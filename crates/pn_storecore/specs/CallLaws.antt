@@ -1,5 +1,6 @@
 -- What an installer knows after a call, and which call it may make next.
-use Rattle.std.specs.Prelude.{◌≡◌, ◌⊎◌, ℕ, ◌≤◌, Bool, true, List, length, take, Option, Some, None, Result, Ok, Err, Vec}
+use Rattle.std.specs.Prelude.{◌≡◌, ◌⊎◌, ℕ, ◌≤◌, Bool, List, length, take, Option, Some, None, Result, IfOk, OnOk, OnErr, Vec}
+use Rattle.std.specs.Bool.{OnTrue}
 use Rattle.std.specs.Global.{Global}
 use Rattle.sha2.specs.Sha512.{sha512}
 use Rattle.pn_text.specs.declared.fault.DevFault.{DevFault}
@@ -27,20 +28,25 @@ pub record AsksLaw : Type 0 where
 -- What a call leaves in the installer's folder of a number. After a refusal the step was made or not,
 -- and of an append a front.
 pub record HoldsLaw : Type 0 where
-  pub claimed : (old new : Seen) (k : ℕ) → Keeps old new → Answers old (step.Claim k) new (Ok true) (IsClaim k) → Holds new k no_files
-  pub made : (old new : Seen) (own : StoreStep) (k : ℕ) (files : TempFiles) → Keeps old new → IsIn k own → Does {T = Unit {0}} old own new (Ok tt) → Holds old k files → Holds new k (files_after own files)
-  pub refused : (old new : Seen) (own : StoreStep) (k : ℕ) (files : TempFiles) (e : DevFault) → Keeps old new → IsIn k own → Does {T = Unit {0}} old own new (Err e) → Holds old k files
-      → Holds new k files ⊎ Holds new k (files_after own files)
-  pub appended : (old new : Seen) (k n : ℕ) (more : List ℕ) (files : TempFiles) → Keeps old new → Appends {T = Unit {0}} old k n more new (Ok tt) → Holds old k files → Holds new k (files_after (step.Append k n more) files)
-  pub append_refused : (old new : Seen) (k n : ℕ) (more : List ℕ) (files : TempFiles) (e : DevFault) → Keeps old new → Appends {T = Unit {0}} old k n more new (Err e) → Holds old k files
-      → Holds new k files ⊎ ((i : ℕ) × (i ≤ length more) × Holds new k (files_after (step.Append k n (take i more)) files))
-  pub emptied : (n : ℕ) (bytes : Option (List ℕ)) (m : ℕ) → files_with (files_with no_files n bytes) n None m ≡ None
+  pub claimed : (old new : Seen) (k : ℕ) (result : Result Bool DevFault) → Keeps old new → Answers old (step.Claim k) new result (IsClaim k) → IfOk result (λ free. OnTrue free (Holds new k no_files))
+  pub made : (old new : Seen) (own : StoreStep) (k : ℕ) (files : TempFiles) (result : Result (Unit {0}) DevFault) → Keeps old new → IsIn k own → Does old own new result → Holds old k files
+      → OnOk result (Holds new k (files_after own files))
+  pub refused : (old new : Seen) (own : StoreStep) (k : ℕ) (files : TempFiles) (result : Result (Unit {0}) DevFault) → Keeps old new → IsIn k own → Does old own new result → Holds old k files
+      → OnErr result (Holds new k files ⊎ Holds new k (files_after own files))
+  pub appended : (old new : Seen) (k n : ℕ) (more : List ℕ) (files : TempFiles) (result : Result (Unit {0}) DevFault) → Keeps old new → Appends old k n more new result → Holds old k files
+      → OnOk result (Holds new k (files_after (step.Append k n more) files))
+  pub append_refused : (old new : Seen) (k n : ℕ) (more : List ℕ) (files : TempFiles) (result : Result (Unit {0}) DevFault) → Keeps old new → Appends old k n more new result → Holds old k files
+      → OnErr result (Holds new k files ⊎ ((i : ℕ) × (i ≤ length more) × Holds new k (files_after (step.Append k n (take i more)) files)))
+  pub again : (files : TempFiles) (n : ℕ) (old new : Option (List ℕ)) → files_with (files_with files n old) n new ≡ files_with files n new
+  pub emptied : (n : ℕ) → files_with no_files n None ≡ no_files
 
 -- What stands after a call that was not refused.
 pub record StandsLaw : Type 0 where
-  pub shard : (old new : Seen) (place : Place) (first : ℕ) → Keeps old new → Does {T = Unit {0}} old (step.Shard place first) new (Ok tt) → HasShard new place first
-  pub file : (old new : Seen) (k n : ℕ) (at bytes : List ℕ) (files : TempFiles) → Keeps old new → Does {T = Unit {0}} old (step.PublishFile k n at) new (Ok tt) → Holds old k files → files n ≡ Some bytes → HasBytes new Files at bytes
-  pub listing : (old new : Seen) (k n : ℕ) (at bytes : List ℕ) (files : TempFiles) → Keeps old new → Does {T = Unit {0}} old (step.PublishListing k n at) new (Ok tt) → Holds old k files → files n ≡ Some bytes → HasBytes new Listings at bytes
+  pub shard : (old new : Seen) (place : Place) (first : ℕ) (result : Result (Unit {0}) DevFault) → Keeps old new → Does old (step.Shard place first) new result → OnOk result (HasShard new place first)
+  pub file : (old new : Seen) (k n : ℕ) (at bytes : List ℕ) (files : TempFiles) (result : Result (Unit {0}) DevFault) → Keeps old new → Does old (step.PublishFile k n at) new result → Holds old k files → files n ≡ Some bytes
+      → OnOk result (HasBytes new Files at bytes)
+  pub listing : (old new : Seen) (k n : ℕ) (at bytes : List ℕ) (files : TempFiles) (result : Result (Unit {0}) DevFault) → Keeps old new → Does old (step.PublishListing k n at) new result → Holds old k files → files n ≡ Some bytes
+      → OnOk result (HasBytes new Listings at bytes)
   pub object : (s : Seen) (place : Place) (at bytes : List ℕ) → HasBytes s place at bytes → HasObject s place at
 
 -- A lawful call leaves the folders that its step is not on, and what stands keeps standing.

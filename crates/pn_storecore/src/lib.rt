@@ -35,4 +35,6 @@ pub use sure::SureStore;
 pub use world::StoreWorld;
 
 #[cfg(test)]
+mod puts;
+#[cfg(test)]
 mod tests;

@@ -1,0 +1,123 @@
+// A file and its listing put into any store, by calls whose steps are shown to be lawful.
+ghost use Rattle.std.specs.Prelude.{◌≡◌, ◌≤◌, ℕ, List, [], ◌++◌, Some, None, OnOk, IfOk, length};
+ghost use Rattle.std.specs.Bool.{OnTrue};
+ghost use Rattle.sha2.specs.Sha512.{sha512};
+ghost use Rattle.pn_digest.specs.Listing.{IsListingText, Names};
+ghost use Rattle.pn_storecore.specs.declared.step.Place.TheVariants.{Files};
+ghost use Rattle.pn_storecore.specs.declared.step.StoreStep.TheVariants as step;
+ghost use Rattle.pn_storecore.specs.World.{first_byte};
+ghost use Rattle.pn_storecore.specs.Lawful.{file_limit};
+ghost use Rattle.pn_storecore.specs.Held.{Holds, HasObject, HasBytes, no_files, files_with};
+ghost use Rattle.pn_storecore.specs.CallLaws.{Leaves};
+
+use crate::{Place, StoreDisk, asks_law, holds_law, leaves_law, stands_law};
+use pn_digest::{Digest, Hasher512, Listing, listing_law};
+use pn_text::{DevFault, RelPath};
+use std::alloc::Global;
+use std::test::Fail;
+
+pub fn digest(bytes: &[u8]) -> Digest
+    ensures { result ≡ sha512 bytes.now }
+{
+    let mut hasher = Hasher512::new();
+    hasher.push(bytes);
+    hasher.end()
+}
+
+fn first_of(at: &Digest) -> u8
+    ensures { result ≡ first_byte at.now }
+{
+    let bytes = at.as_bytes();
+    bytes[0]
+}
+
+fn claim<D: StoreDisk>(disk: &mut D, k: u32) -> Result<bool, DevFault>
+    ensures { IfOk result (λ free. OnTrue free (Holds (D.seen disk.new) k no_files)) }
+{
+    holds_law();
+    disk.claim(k)
+}
+
+// Writes a file in two pieces.
+fn write<D: StoreDisk>(disk: &mut D, k: u32, bytes: &[u8]) -> Result<(), DevFault>
+    requires { Holds (D.seen disk.old) k no_files }
+    ensures folder { OnOk result (Holds (D.seen disk.new) k (files_with no_files 0 (Some bytes.now))) }
+    ensures objects { OnOk result ((at : List ℕ) → HasObject (D.seen disk.old) Files at → HasObject (D.seen disk.new) Files at) }
+{
+    asks_law();
+    holds_law();
+    leaves_law();
+    let (front, back) = bytes.split_at(bytes.len() / 2);
+    disk.create(k, 0)?;
+    disk.append(k, 0, front)?;
+    disk.append(k, 0, back)
+}
+
+// Moves the file of a held folder to the address of its bytes.
+fn publish<D: StoreDisk>(disk: &mut D, k: u32, bytes: &[u8]) -> Result<(), DevFault>
+    requires holds { Holds (D.seen disk.old) k (files_with no_files 0 (Some bytes.now)) }
+    requires short { length bytes.now ≤ file_limit }
+    ensures folder { OnOk result (Holds (D.seen disk.new) k no_files) }
+    ensures stands { OnOk result (HasBytes (D.seen disk.new) Files (sha512 bytes.now) bytes.now) }
+{
+    asks_law();
+    holds_law();
+    stands_law();
+    leaves_law();
+    let at = digest(bytes);
+    disk.shard(Place::Files, first_of(&at))?;
+    disk.publish_file(k, 0, &at)
+}
+
+// The same of a listing, each file of which stands.
+fn publish_listing<D: StoreDisk>(disk: &mut D, k: u32, text: &[u8]) -> Result<(), DevFault>
+    requires holds { Holds (D.seen disk.old) k (files_with no_files 0 (Some text.now)) }
+    requires text { IsListingText text.now }
+    requires named { (file : List ℕ) → Names text.now file → HasObject (D.seen disk.old) Files file }
+    ensures { OnOk result (Holds (D.seen disk.new) k no_files) }
+{
+    asks_law();
+    holds_law();
+    stands_law();
+    leaves_law();
+    let at = digest(text);
+    disk.shard(Place::Listings, first_of(&at))?;
+    disk.publish_listing(k, 0, &at)
+}
+
+// Looks at everything.
+fn look<D: StoreDisk>(disk: &mut D, at: &Digest) -> Result<bool, DevFault>
+    ensures { OnOk result (Leaves step.Read (D.seen disk.old) (D.seen disk.new)) }
+{
+    leaves_law();
+    let mut into = [0u8; 4];
+    let found = disk.read(Place::Files, at, 0, &mut into)?;
+    let files = disk.list(Place::Files)?;
+    let numbers = disk.numbers()?;
+    Ok(found.is_some() && files.len() == 1 && numbers.len() == 1)
+}
+
+/// Puts a file, and a listing that names that file alone. `false` where the number is taken.
+pub fn put<D: StoreDisk>(
+    disk: &mut D,
+    k: u32,
+    bytes: &[u8],
+    text: &[u8],
+) -> Result<bool, DevFault>
+    requires short { length bytes.now ≤ file_limit }
+    requires text { IsListingText text.now }
+    requires named { (file : List ℕ) → Names text.now file → file ≡ sha512 bytes.now }
+{
+    asks_law();
+    stands_law();
+    if !claim(disk, k)? {
+        return Ok(false);
+    }
+    write(disk, k, bytes)?;
+    publish(disk, k, bytes)?;
+    let alone = look(disk, &digest(bytes))?;
+    write(disk, k, text)?;
+    publish_listing(disk, k, text)?;
+    disk.drop_temp(k, None)?;
+    Ok(alone)
+}
