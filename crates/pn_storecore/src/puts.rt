@@ -85,7 +85,7 @@ fn publish_listing<D: StoreDisk>(disk: &mut D, k: u32, text: &[u8]) -> Result<()
     disk.publish_listing(k, 0, &at)
 }
 
-// Looks at everything.
+// Whether something stands there, and a number is taken.
 fn look<D: StoreDisk>(disk: &mut D, at: &Digest) -> Result<bool, DevFault>
     ensures { OnOk result (Leaves step.Read (D.seen disk.old) (D.seen disk.new)) }
 {
@@ -94,11 +94,11 @@ fn look<D: StoreDisk>(disk: &mut D, at: &Digest) -> Result<bool, DevFault>
     let found = disk.read(Place::Files, at, 0, &mut into)?;
     let files = disk.list(Place::Files)?;
     let numbers = disk.numbers()?;
-    Ok(found.is_some() && files.len() == 1 && numbers.len() == 1)
+    Ok(found.is_some() && !files.is_empty() && !numbers.is_empty())
 }
 
-/// Puts a file, and a listing that names that file alone. `false` where the number is taken.
-pub fn put<D: StoreDisk>(
+// Puts a file, and the listing that names it alone. `false` where the number is taken.
+fn put_both<D: StoreDisk>(
     disk: &mut D,
     k: u32,
     bytes: &[u8],
@@ -115,9 +115,35 @@ pub fn put<D: StoreDisk>(
     }
     write(disk, k, bytes)?;
     publish(disk, k, bytes)?;
-    let alone = look(disk, &digest(bytes))?;
+    let found = look(disk, &digest(bytes))?;
     write(disk, k, text)?;
     publish_listing(disk, k, text)?;
     disk.drop_temp(k, None)?;
-    Ok(alone)
+    Ok(found)
+}
+
+// The text of a listing that names this file alone.
+fn listing_of(alloc: Global, bytes: &[u8]) -> Result<Vec<u8>, Fail>
+    ensures text { IfOk result (λ text. IsListingText text.items) }
+    ensures named { IfOk result (λ text. (file : List ℕ) → Names text.items file → file ≡ sha512 bytes.now) }
+{
+    listing_law();
+    let mut files = Vec::new(alloc);
+    files.push((RelPath::read(alloc, "x")?, digest(bytes)))?;
+    let listing = Listing::of_files(alloc, files)?;
+    let text = listing.print(alloc)?;
+    Ok(text)
+}
+
+/// Puts these bytes, and a listing that names them alone. `false` where the number is taken.
+pub fn put<D: StoreDisk>(
+    alloc: Global,
+    disk: &mut D,
+    k: u32,
+    bytes: &[u8],
+) -> Result<Result<bool, DevFault>, Fail>
+    requires { length bytes.now ≤ file_limit }
+{
+    let text = listing_of(alloc, bytes)?;
+    Ok(put_both(disk, k, bytes, text.as_slice()))
 }
