@@ -11,3 +11,4 @@ pub mod Behind
 pub mod Grown
 pub mod Holding
 pub mod Leaving
+pub mod Scripts

@@ -12,3 +12,5 @@ pub mod Told
 pub mod Came
 pub mod Held
 pub mod CallLaws
+pub mod Script
+pub mod Stores
