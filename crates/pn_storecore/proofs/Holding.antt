@@ -13,9 +13,9 @@ use Rattle.pn_storecore.specs.declared.step.Discard.TheVariants as what
 use Rattle.pn_storecore.specs.declared.step.StoreStep.{StoreStep}
 use Rattle.pn_storecore.specs.declared.step.StoreStep.TheVariants.{Claim, Create, Append, Shard, PublishFile, PublishListing, DropTemp, Read, Discard}
 use Rattle.pn_storecore.specs.World.{Temp, World, objects, Stands, owner_of, content, claimed_by, with_temp, with_file, with_content, first_byte}
-use Rattle.pn_storecore.specs.Steps.{Journal, claimed, with_shard, after, world_after, world_of}
+use Rattle.pn_storecore.specs.Steps.{Journal, with_shard, after, world_after, world_of}
 use Rattle.pn_storecore.specs.Lawful.{IsLawful, AreLawful, AreOthers}
-use Rattle.pn_storecore.specs.Sound.{IsStoredFile}
+use Rattle.pn_storecore.specs.Stored.{IsStoredFile}
 use Rattle.pn_storecore.specs.Seen.{Seen, Keeps, Asks}
 use Rattle.pn_storecore.specs.Calls.{Grows, Answers, Does, Appends, IsFront, IsClaim}
 use Rattle.pn_storecore.specs.Held.{TempFiles, no_files, files_with, Holds, HasShard, HasObject, HasBytes, IsIn, Spares, files_after}
@@ -45,8 +45,7 @@ asks = record {
         owned = owner_held (world_of j) k s.me files h;
         bytes = bytes;
         stands = content_held (world_of j) k n s.me files h ∙ some;
-        short = stored.short;
-        addressed = stored.addressed;
+        stored = stored;
         shard = shard j told;
       };
   publish_listing = λ s k n at bytes files holds some addressed text named shard j told. let h = holds j told in
@@ -54,10 +53,8 @@ asks = record {
         owned = owner_held (world_of j) k s.me files h;
         bytes = bytes;
         stands = content_held (world_of j) k n s.me files h ∙ some;
-        addressed = addressed;
+        stored = record { addressed = addressed; whole = record { text = text; named = λ file names. named file names j told } };
         shard = shard j told;
-        text = text;
-        named = λ file names. named file names j told;
       };
   drop_file = λ s k n files holds j told. record { owned = owner_held (world_of j) k s.me files (holds j told); bare = λ whole. cc };
   drop_folder = λ s k files holds none j told. let h = holds j told in

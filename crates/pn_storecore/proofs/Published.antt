@@ -85,5 +85,5 @@ pub published : PublishedLaw
 published = record {
   files = keeps_files;
   listings = keeps_listings;
-  named = λ w steps is h at bytes file e names. files_stay w steps h file ((is.listings at bytes e).named file names);
+  named = λ w steps is h at bytes file e names. files_stay w steps h file ((is.listings at bytes e).whole.named file names);
 }

@@ -10,7 +10,7 @@ use Rattle.pn_storecore.specs.declared.step.Place.TheVariants.{Files, Listings}
 use Rattle.pn_storecore.specs.declared.step.StoreStep.{StoreStep}
 use Rattle.pn_storecore.specs.declared.step.StoreStep.TheVariants as step
 use Rattle.pn_storecore.specs.World.{objects, first_byte}
-use Rattle.pn_storecore.specs.Sound.{IsStoredFile}
+use Rattle.pn_storecore.specs.Stored.{IsStoredFile}
 use Rattle.pn_storecore.specs.Seen.{Seen, Keeps, Asks}
 use Rattle.pn_storecore.specs.Calls.{Answers, Does, Appends, IsClaim, IsRead, AreAddresses, AreNumbersOf}
 use Rattle.pn_storecore.specs.Held.{Holds, HasShard, HasObject, HasBytes, IsIn, Spares, files_after, files_with, no_files, TempFiles}

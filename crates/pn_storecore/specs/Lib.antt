@@ -1,5 +1,6 @@
 pub mod World
 pub mod Steps
+pub mod Stored
 pub mod Lawful
 pub mod Sound
 pub mod Laws

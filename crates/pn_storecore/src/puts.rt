@@ -6,7 +6,7 @@ ghost use Rattle.pn_digest.specs.Listing.{IsListingText, Names};
 ghost use Rattle.pn_storecore.specs.declared.step.Place.TheVariants.{Files};
 ghost use Rattle.pn_storecore.specs.declared.step.StoreStep.TheVariants as step;
 ghost use Rattle.pn_storecore.specs.World.{first_byte};
-ghost use Rattle.pn_storecore.specs.Lawful.{file_limit};
+ghost use Rattle.pn_storecore.specs.Stored.{file_limit};
 ghost use Rattle.pn_storecore.specs.Held.{Holds, HasObject, HasBytes, no_files, files_with};
 ghost use Rattle.pn_storecore.specs.CallLaws.{Leaves};
 
