@@ -1,11 +1,10 @@
 -- What a lawful step changes at addresses.
-use Rattle.std.proofs.Common.{◌≡◌, ◌≢◌, ℕ, List, true, refl, sym, ap, ◌∙◌, subst, ◌⊎◌, inl, inr, Some, None}
-use Rattle.std.specs.Prelude.{Option, ◌==◌}
-use Rattle.pn_digest.specs.Listing.{Names}
+use Rattle.std.proofs.Common.{◌≡◌, ℕ, List, true, refl, sym, ◌∙◌, subst, ◌⊎◌, inl, inr, Some}
+use Rattle.std.specs.Prelude.{◌==◌}
 use Rattle.pn_storecore.specs.declared.step.Place.TheVariants.{Files, Listings}
 use Rattle.pn_storecore.specs.declared.step.StoreStep.{StoreStep}
 use Rattle.pn_storecore.specs.declared.step.StoreStep.TheVariants.{Claim, Create, Append, Shard, PublishFile, PublishListing, DropTemp, Read, Discard}
-use Rattle.pn_storecore.specs.World.{Temp, Objects, World, Stands, content}
+use Rattle.pn_storecore.specs.World.{Objects, World, Stands, content}
 use Rattle.pn_storecore.specs.Steps.{after}
 use Rattle.pn_storecore.specs.Lawful.{IsLawful}
 use Rattle.pn_storecore.specs.Stored.{IsStoredFile, IsStoredListing}

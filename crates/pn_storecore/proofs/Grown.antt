@@ -1,12 +1,12 @@
 -- What a told call did to the journal: lawful steps of others came, and then its own step or none.
 use Rattle.std.proofs.Common.{◌≡◌, ℕ, ◌≤◌, List, [], ◌∷◌, ◌++◌, length, take, arith, refl, sym, ap, ◌∙◌, subst, append-nil, ◌⊎◌, inl, inr, Some, None, Ok, Err}
-use Rattle.std.specs.Prelude.{Option, Result, IfSome}
+use Rattle.std.specs.Prelude.{Result, IfSome}
 use Rattle.std.proofs.Math.Seq.{take-length}
 use Rattle.pn_text.specs.declared.fault.DevFault.{DevFault}
 use Rattle.pn_storecore.specs.declared.step.StoreStep.{StoreStep}
 use Rattle.pn_storecore.specs.declared.step.StoreStep.TheVariants.{Append}
-use Rattle.pn_storecore.specs.World.{World, empty, owner_of}
-use Rattle.pn_storecore.specs.Steps.{Journal, after, world_after, world_of}
+use Rattle.pn_storecore.specs.World.{World, empty}
+use Rattle.pn_storecore.specs.Steps.{Journal, world_after, world_of}
 use Rattle.pn_storecore.specs.Lawful.{AreLawful, AreOthers}
 use Rattle.pn_storecore.specs.Seen.{Seen, Keeps}
 use Rattle.pn_storecore.specs.Calls.{Grows, Answers, Appends, IsFront}
@@ -41,8 +41,8 @@ grown {T} v Made Answer old new s x kept h told =
       | None ↦ λ is g. absurd (none_told old new x kept is told)
       | Some j ↦ λ is g. (record { was = j; told = is; others = g.others; lawful = g.lawful; theirs = g.theirs; me = kept.me; came = same j g.others (sym told ∙ g.ok.0) }, g.ok.1)
     ] refl h where
-  same : (j others : Journal) → Some x ≡ Some (j ++ others ++ (old.me, s) ∷ []) → x ≡ j ++ others ++ (old.me, s) ∷ []
-  same j others e = cc
+      same : (j others : Journal) → Some x ≡ Some (j ++ others ++ (old.me, s) ∷ []) → x ≡ j ++ others ++ (old.me, s) ∷ []
+      same j others e = cc
 
 -- after any call: none of its own came, or its step, or after a refusal what may have been made of it
 pub grown_any : {T : Type 0} (r : Result T DevFault) (Made : StoreStep → Type 0) (Answer : World → T → Type 0) (old new : Seen) (s : StoreStep) (x : Journal)
@@ -57,8 +57,8 @@ grown_any {T} (Err e) Made Answer old new s x kept h told =
         | inr part ↦ inr (part.0, inr part.1, record { was = j; told = is; others = g.others; lawful = g.lawful; theirs = g.theirs; me = kept.me; came = same (j ++ g.others ++ (old.me, part.0) ∷ []) (sym told ∙ part.2) })
       ]
     ] refl h where
-  same : (y : Journal) → Some x ≡ Some y → x ≡ y
-  same y e = cc
+      same : (y : Journal) → Some x ≡ Some y → x ≡ y
+      same y e = cc
 
 -- the same where a refused call made its step or none
 pub grown_once : {T : Type 0} (r : Result T DevFault) (Answer : World → T → Type 0) (old new : Seen) (s : StoreStep) (x : Journal)

@@ -1,26 +1,19 @@
 -- What an installer holds and knows, after its calls.
-use Rattle.std.proofs.Common.{◌≡◌, ◌≢◌, ℕ, ◌≤◌, Bool, true, false, List, [], ◌∷◌, ◌++◌, length, take, refl, sym, ap, ◌∙◌, subst, ◌⊎◌, inl, inr, Some, None, Ok, Err}
+use Rattle.std.proofs.Common.{◌≡◌, ℕ, ◌≤◌, Bool, true, false, List, [], ◌∷◌, ◌++◌, length, take, refl, sym, ap, ◌∙◌, subst, ◌⊎◌, inl, inr, Some, None, Ok, Err}
 use Rattle.std.specs.Prelude.{Option, Result, IfOk, OnOk, OnErr, cond, nat_eq}
 use Rattle.std.specs.Bool.{OnTrue}
 use Rattle.std.specs.Option.{option_map, option_and_then}
 use Rattle.std.proofs.lemmas.Map.{update-update}
-use Rattle.sha2.specs.Sha512.{sha512}
 use Rattle.pn_text.specs.declared.fault.DevFault.{DevFault}
-use Rattle.pn_digest.specs.Listing.{IsListingText, Names}
-use Rattle.pn_storecore.specs.declared.step.Place.{Place}
-use Rattle.pn_storecore.specs.declared.step.Place.TheVariants.{Files, Listings}
-use Rattle.pn_storecore.specs.declared.step.Discard.TheVariants as what
 use Rattle.pn_storecore.specs.declared.step.StoreStep.{StoreStep}
 use Rattle.pn_storecore.specs.declared.step.StoreStep.TheVariants.{Claim, Create, Append, Shard, PublishFile, PublishListing, DropTemp, Read, Discard}
-use Rattle.pn_storecore.specs.World.{Temp, World, objects, Stands, owner_of, content, claimed_by, with_temp, with_file, with_content, first_byte}
-use Rattle.pn_storecore.specs.Steps.{Journal, with_shard, after, world_after, world_of}
-use Rattle.pn_storecore.specs.Lawful.{IsLawful, AreLawful, AreOthers}
-use Rattle.pn_storecore.specs.Stored.{IsStoredFile}
-use Rattle.pn_storecore.specs.Seen.{Seen, Keeps, Asks}
-use Rattle.pn_storecore.specs.Calls.{Grows, Answers, Does, Appends, IsFront, IsClaim}
-use Rattle.pn_storecore.specs.Held.{TempFiles, no_files, files_with, Holds, HasShard, HasObject, HasBytes, IsIn, Spares, files_after}
-use Rattle.pn_storecore.specs.CallLaws.{AsksLaw, HoldsLaw, StandsLaw}
-use Rattle.pn_storecore.proofs.Keys.{at_number, at_address, none_some}
+use Rattle.pn_storecore.specs.World.{Temp, World, owner_of, content, with_file, with_content}
+use Rattle.pn_storecore.specs.Steps.{Journal, after, world_after, world_of}
+use Rattle.pn_storecore.specs.Seen.{Seen, Keeps}
+use Rattle.pn_storecore.specs.Calls.{Answers, Does, Appends, IsFront, IsClaim}
+use Rattle.pn_storecore.specs.Held.{TempFiles, no_files, files_with, Holds, IsIn, files_after}
+use Rattle.pn_storecore.specs.CallLaws.{AsksLaw, HoldsLaw}
+use Rattle.pn_storecore.proofs.Keys.{at_number, none_some}
 use Rattle.pn_storecore.proofs.Owners.{others_keep, owners}
 use Rattle.pn_storecore.proofs.Grown.{Grown, before, world_now, grown, grown_once, grown_front}
 

@@ -1,20 +1,18 @@
 -- What stands after an installer's call, and what the call leaves.
-use Rattle.std.proofs.Common.{◌≡◌, ◌≢◌, ℕ, ◌≤◌, Bool, true, List, [], ◌∷◌, ◌++◌, take, refl, sym, ap, ◌∙◌, subst, ◌⊎◌, inl, inr, Some, None, Ok, Err, eq-eqb}
+use Rattle.std.proofs.Common.{◌≡◌, ◌≢◌, ℕ, Bool, true, List, [], ◌∷◌, ◌++◌, take, refl, sym, ap, ◌∙◌, subst, ◌⊎◌, inl, inr, Some, None, Ok, Err, eq-eqb}
 use Rattle.std.specs.Prelude.{Option, Result, OnOk, ◌==◌, ◌||◌}
-use Rattle.std.specs.Option.{ForSome, option_map}
 use Rattle.std.specs.Map.{update}
 use Rattle.std.specs.Str.{bytes_eq}
 use Rattle.pn_text.specs.declared.fault.DevFault.{DevFault}
 use Rattle.pn_storecore.specs.declared.step.Place.{Place}
 use Rattle.pn_storecore.specs.declared.step.Place.TheVariants.{Files, Listings}
-use Rattle.pn_storecore.specs.declared.step.Discard.TheVariants as what
 use Rattle.pn_storecore.specs.declared.step.StoreStep.{StoreStep}
 use Rattle.pn_storecore.specs.declared.step.StoreStep.TheVariants.{Claim, Create, Append, Shard, PublishFile, PublishListing, DropTemp, Read, Discard}
-use Rattle.pn_storecore.specs.World.{Temp, World, objects, Stands, content, with_temp, with_file}
+use Rattle.pn_storecore.specs.World.{Temp, World, objects, Stands, content, with_temp}
 use Rattle.pn_storecore.specs.Steps.{Journal, after, world_after, world_of}
 use Rattle.pn_storecore.specs.Lawful.{IsLawful, AreLawful}
 use Rattle.pn_storecore.specs.Seen.{Seen, Keeps, Asks}
-use Rattle.pn_storecore.specs.Calls.{Answers, Does, Appends, IsClaim, IsRead, AreAddresses, AreNumbersOf}
+use Rattle.pn_storecore.specs.Calls.{Answers, Does, IsClaim, IsRead, AreAddresses, AreNumbersOf}
 use Rattle.pn_storecore.specs.Held.{TempFiles, Holds, HasShard, HasObject, HasBytes, Spares}
 use Rattle.pn_storecore.specs.CallLaws.{StandsLaw, Leaves, LeavesLaw}
 use Rattle.pn_storecore.proofs.Keys.{at_number, at_address, none_some}
@@ -85,9 +83,6 @@ step_spares w Read who k h spared some = refl
 step_spares w (Discard x) who k h spared some = absurd h
 
 module _ (old new : Seen) (x mine : Journal) (g : Grown old new x mine) (lawful : AreLawful (before old new x mine g) mine) where
-  run : Journal
-  run = g.others ++ mine
-
   all_lawful : AreLawful (world_of g.was) (g.others ++ mine)
   all_lawful = lawful_both (world_of g.was) g.others mine g.lawful lawful
 

@@ -1,5 +1,5 @@
 -- Whose the numbers are after lawful steps, and which steps stay lawful.
-use Rattle.std.proofs.Common.{◌≡◌, ◌≢◌, ℕ, List, [], ◌∷◌, true, refl, sym, ap, ◌∙◌, subst, ◌⊎◌, inl, inr, Some, None}
+use Rattle.std.proofs.Common.{◌≡◌, ◌≢◌, ℕ, List, [], ◌∷◌, true, refl, sym, ap, ◌∙◌, inl, inr, Some, None}
 use Rattle.std.specs.Prelude.{Option}
 use Rattle.std.specs.Option.{option_map, option_and_then}
 use Rattle.std.specs.List.{AllByRecursion}
@@ -10,7 +10,7 @@ use Rattle.pn_storecore.specs.World.{Temp, Temps, World, owner_of, content, clai
 use Rattle.pn_storecore.specs.Steps.{Event, Journal, claim_in, after, world_after}
 use Rattle.pn_storecore.specs.Lawful.{IsLawful, AreLawful, AreOthers}
 use Rattle.pn_storecore.specs.Laws.{OwnerLaw, PlaceLaw, dropping}
-use Rattle.pn_storecore.proofs.Keys.{at_number, none_some}
+use Rattle.pn_storecore.proofs.Keys.{at_number}
 use Rattle.pn_storecore.proofs.Changes.{file_shards, listing_shards}
 use Rattle.pn_storecore.proofs.Published.{files_stay}
 

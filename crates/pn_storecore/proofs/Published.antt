@@ -1,15 +1,12 @@
 -- What stands at addresses after lawful steps.
-use Rattle.std.proofs.Common.{◌≡◌, ◌≢◌, ℕ, zero, suc, List, [], ◌∷◌, take, true, refl, sym, ap, ◌∙◌, ◌⊎◌, inl, inr, Some, None}
-use Rattle.std.specs.Prelude.{Option}
+use Rattle.std.proofs.Common.{◌≡◌, ℕ, zero, suc, List, [], ◌∷◌, take, true, sym, ap, ◌∙◌, inl, inr, Some}
 use Rattle.std.specs.List.{AllByRecursion}
 use Rattle.sha2.specs.Sha512.{sha512}
-use Rattle.pn_digest.specs.Listing.{Names}
 use Rattle.pn_storecore.specs.World.{Objects, World, empty, Stands}
-use Rattle.pn_storecore.specs.Steps.{Event, Journal, after, world_after, world_of}
+use Rattle.pn_storecore.specs.Steps.{Event, Journal, after, world_after}
 use Rattle.pn_storecore.specs.Lawful.{AreLawful, IsDiscard, AreLawfulOrDiscards}
 use Rattle.pn_storecore.specs.Sound.{IsSound}
-use Rattle.pn_storecore.specs.Laws.{SoundLaw, PublishedLaw, IsAlone, KeepsObjects}
-use Rattle.pn_storecore.proofs.Keys.{none_some}
+use Rattle.pn_storecore.specs.Laws.{SoundLaw, PublishedLaw, KeepsObjects}
 use Rattle.pn_storecore.proofs.Changes.{Changes, files_change, listings_change, file_shards, listing_shards, stays, sound_step}
 
 sound_empty : IsSound empty

@@ -1,13 +1,12 @@
 -- Lemmas on the steps that a script has come before a call.
-use Rattle.std.proofs.Common.{◌≡◌, ℕ, Bool, true, false, List, [], ◌∷◌, ◌++◌, take, length, slice_index_or, refl, sym, ap, ◌∙◌, subst, append-nil, append_assoc, ◌⊎◌, inl, inr, Ok, Err, ◌<◌, ◌+◌}
+use Rattle.std.proofs.Common.{◌≡◌, ℕ, true, false, List, [], ◌∷◌, ◌++◌, take, length, slice_index_or, refl, sym, ap, ◌∙◌, subst, append-nil, append_assoc, inl, inr, Ok, Err, ◌<◌, ◌+◌}
 use Rattle.std.specs.Prelude.{Result, OnOk, IfErr, MatchResult}
-use Rattle.std.specs.Bool.{Decides}
-use Rattle.std.proofs.lemmas.List.{take_more, take_all}
+use Rattle.std.proofs.lemmas.List.{take_more}
 use Rattle.pn_text.specs.declared.fault.DevFault.{DevFault}
 use Rattle.pn_text.specs.declared.fault.DevFault.TheVariants.{Failed, Memory}
 use Rattle.pn_storecore.specs.declared.step.StoreStep.{StoreStep}
 use Rattle.pn_storecore.specs.World.{World, empty}
-use Rattle.pn_storecore.specs.Steps.{Event, Journal, after, world_after, world_of}
+use Rattle.pn_storecore.specs.Steps.{Journal, after, world_after, world_of}
 use Rattle.pn_storecore.specs.Script.{Scheduled, Script, IsDue, AreDue, DueCame, Ran, Goes, is_listed, call_after}
 use Rattle.pn_storecore.proofs.Journals.{after_both}
 
@@ -66,11 +65,15 @@ pub went : {T : Type 0} (r : Result T DevFault) (me mine : ℕ) (plan now : Scri
     → MatchResult r (λ x. new ≡ mid ++ (mine, s) ∷ []) (λ e. (e ≡ Memory) × (new ≡ mid)) → Goes {T = T} me plan old ((me, s) ∷ []) new now r
 went {T} r me mine plan now old mid new s v same g h = record { ran = by r h; others = g.others; fail = g.fail } where
   by : (r : Result T DevFault) → MatchResult r (λ x. new ≡ mid ++ (mine, s) ∷ []) (λ e. (e ≡ Memory) × (new ≡ mid)) → Ran {T = T} me plan old ((me, s) ∷ []) new now r
-  by (Ok x) e = (g.ran.0, record {
-    came = g.ran.1.came;
-    due = g.ran.1.due;
-    grew = e ∙ ap (λ (y : Journal). y ++ (mine, s) ∷ []) (g.ran.1.grew ∙ append-nil (old ++ g.ran.1.came)) ∙ ap (λ who. old ++ g.ran.1.came ++ (who, s) ∷ []) same;
-  }, g.ran.2)
+  by (Ok x) e = (
+    g.ran.0,
+    record {
+      came = g.ran.1.came;
+      due = g.ran.1.due;
+      grew = e ∙ ap (λ (y : Journal). y ++ (mine, s) ∷ []) (g.ran.1.grew ∙ append-nil (old ++ g.ran.1.came)) ∙ ap (λ who. old ++ g.ran.1.came ++ (who, s) ∷ []) same;
+    },
+    g.ran.2,
+  )
   by (Err Failed) e = let clash : Failed ≡ Memory = e.0 in cc
   by (Err Memory) e = tt
 

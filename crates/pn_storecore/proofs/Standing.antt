@@ -1,5 +1,5 @@
 -- Lemmas on the files that a listing names.
-use Rattle.std.proofs.Common.{◌≡◌, ◌≢◌, ℕ, ◌+◌, ◌<◌, ◌≤◌, List, Bool, Bor, true, false, nat_lt, length, refl, sym, ap, ◌∙◌, subst, Some, None, Ok, Err, arith, slice_index_or}
+use Rattle.std.proofs.Common.{◌≡◌, ◌≢◌, ℕ, ◌+◌, ◌<◌, List, Bool, Bor, true, false, nat_lt, length, refl, sym, ap, ◌∙◌, subst, Some, None, Ok, Err, arith, slice_index_or}
 use Rattle.std.specs.Prelude.{Option, Result, IfOk}
 use Rattle.std.specs.Option.{is_some, option_copied}
 use Rattle.std.specs.Bool.{Decides}

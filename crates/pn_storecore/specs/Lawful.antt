@@ -3,7 +3,7 @@ use Rattle.std.specs.Prelude.{◌≡◌, ◌≢◌, ◌⊎◌, ℕ, true, List, 
 use Rattle.std.specs.List.{AllByRecursion}
 use Rattle.pn_storecore.specs.declared.step.StoreStep.{StoreStep}
 use Rattle.pn_storecore.specs.declared.step.StoreStep.TheVariants.{Claim, Create, Append, Shard, PublishFile, PublishListing, DropTemp, Read, Discard}
-use Rattle.pn_storecore.specs.World.{World, empty, owner_of, content, first_byte}
+use Rattle.pn_storecore.specs.World.{World, owner_of, content, first_byte}
 use Rattle.pn_storecore.specs.Stored.{IsStoredFile, IsStoredListing}
 use Rattle.pn_storecore.specs.Steps.{Event, Journal, after}
 

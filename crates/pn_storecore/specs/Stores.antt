@@ -1,5 +1,5 @@
 -- What the stores in memory show.
-use Rattle.std.specs.Prelude.{◌≡◌, [], ◌∷◌, ◌++◌, ℕ, Some, Result, MatchResult}
+use Rattle.std.specs.Prelude.{◌≡◌, [], ◌∷◌, ◌++◌, Some, Result, MatchResult}
 use Rattle.pn_text.specs.declared.fault.DevFault.{DevFault}
 use Rattle.pn_text.specs.declared.fault.DevFault.TheVariants.{Memory}
 use Rattle.pn_storecore.specs.declared.step.StoreStep.{StoreStep}

@@ -98,12 +98,7 @@ fn look<D: StoreDisk>(disk: &mut D, at: &Digest) -> Result<bool, DevFault>
 }
 
 // Puts a file, and the listing that names it alone. `false` where the number is taken.
-fn put_both<D: StoreDisk>(
-    disk: &mut D,
-    k: u32,
-    bytes: &[u8],
-    text: &[u8],
-) -> Result<bool, DevFault>
+fn put_both<D: StoreDisk>(disk: &mut D, k: u32, bytes: &[u8], text: &[u8]) -> Result<bool, DevFault>
     requires short { length bytes.now ≤ file_limit }
     requires text { IsListingText text.now }
     requires named { (file : List ℕ) → Names text.now file → file ≡ sha512 bytes.now }

@@ -134,10 +134,7 @@ fn a_listed_call_fails_and_makes_no_step(rt: HostRuntime) -> Result<(), Fail> {
         (14, (1, 1, 1)),
     ] {
         let mut disk = failing(alloc, call)?;
-        assert_eq!(rt;
-            put(alloc, &mut disk, 0, b"abc")?,
-            Err(DevFault::Failed)
-        );
+        assert_eq!(rt; put(alloc, &mut disk, 0, b"abc")?, Err(DevFault::Failed));
         assert_eq!(rt; counts(&mut disk)?, left);
     }
     Ok(())

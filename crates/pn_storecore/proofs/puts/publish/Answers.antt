@@ -1,4 +1,4 @@
-use Rattle.std.proofs.Common.{◌≡◌, ◌∙◌, refl, sym, subst, Some, None, Ok}
+use Rattle.std.proofs.Common.{◌∙◌, refl, sym, subst, Some, None, Ok}
 use Rattle.std.specs.Prelude.{OnOk}
 use Rattle.pn_storecore.specs.declared.step.Place.TheVariants.{Files}
 use Rattle.pn_storecore.specs.declared.step.StoreStep.TheVariants.{Shard, PublishFile}
@@ -30,7 +30,7 @@ returns-clause-folder g c =
     subst (λ now. OnOk c.publish_file.result (Holds three c.args.k now))
     (c.holds_law.ensures.again no_files 0 (Some c.args.bytes.now) None ∙ c.holds_law.ensures.emptied 0)
     (c.holds_law.ensures.made two three (PublishFile c.args.k 0 c.digest-at.result) c.args.k files c.publish_file.result c.publish_file.ensures.kept refl c.publish_file.ensures.step
-      ((c.leaves_law.ensures.does one two (Shard Files c.first_of.result) (Ok c.in_ok-shard.field-0) is.kept (λ j told. tt) is.step).folders c.args.k files tt c.requires.holds))
+    ((c.leaves_law.ensures.does one two (Shard Files c.first_of.result) (Ok c.in_ok-shard.field-0) is.kept (λ j told. tt) is.step).folders c.args.k files tt c.requires.holds))
 
 pub returns-clause-stands : goal.returns-clause-stands
 returns-clause-stands g c =
@@ -43,4 +43,4 @@ returns-clause-stands g c =
     let files = files_with no_files 0 (Some bytes) in
     subst (λ at. OnOk c.publish_file.result (HasBytes three Files at bytes)) c.digest-at.ensures
     (c.stands_law.ensures.file two three c.args.k 0 c.digest-at.result bytes files c.publish_file.result c.publish_file.ensures.kept c.publish_file.ensures.step
-      ((c.leaves_law.ensures.does one two (Shard Files c.first_of.result) (Ok c.in_ok-shard.field-0) is.kept (λ j told. tt) is.step).folders c.args.k files tt c.requires.holds) refl)
+    ((c.leaves_law.ensures.does one two (Shard Files c.first_of.result) (Ok c.in_ok-shard.field-0) is.kept (λ j told. tt) is.step).folders c.args.k files tt c.requires.holds) refl)

@@ -1,4 +1,4 @@
-use Rattle.std.proofs.Common.{◌≡◌, ◌∙◌, refl, sym, subst, Some, None, Ok}
+use Rattle.std.proofs.Common.{◌∙◌, refl, sym, subst, Some, None, Ok}
 use Rattle.std.specs.Prelude.{OnOk}
 use Rattle.pn_storecore.specs.declared.step.Place.TheVariants.{Files, Listings}
 use Rattle.pn_storecore.specs.declared.step.StoreStep.TheVariants.{Shard, PublishListing}
@@ -29,4 +29,4 @@ returns g c =
     subst (λ now. OnOk c.publish_listing.result (Holds three c.args.k now))
     (c.holds_law.ensures.again no_files 0 (Some c.args.text.now) None ∙ c.holds_law.ensures.emptied 0)
     (c.holds_law.ensures.made two three (PublishListing c.args.k 0 c.digest-at.result) c.args.k files c.publish_listing.result c.publish_listing.ensures.kept refl c.publish_listing.ensures.step
-      ((c.leaves_law.ensures.does one two (Shard Listings c.first_of.result) (Ok c.in_ok-shard.field-0) is.kept (λ j told. tt) is.step).folders c.args.k files tt c.requires.holds))
+    ((c.leaves_law.ensures.does one two (Shard Listings c.first_of.result) (Ok c.in_ok-shard.field-0) is.kept (λ j told. tt) is.step).folders c.args.k files tt c.requires.holds))

@@ -41,7 +41,7 @@ append-requires-2 g c =
     let now = files_after create no_files in
     c.asks_law.ensures.append three c.args.k 0 c.split_at.result.1.now front (files_after (Append c.args.k 0 front) now)
     (c.holds_law.ensures.appended two three c.args.k 0 front now (Ok c.in_ok-append.field-0) more.kept more.step
-      (c.holds_law.ensures.made one two create c.args.k no_files (Ok c.in_ok-create.field-0) made.kept refl made.step c.requires)) refl
+    (c.holds_law.ensures.made one two create c.args.k no_files (Ok c.in_ok-create.field-0) made.kept refl made.step c.requires)) refl
 
 pub returns-clause-folder : goal.returns-clause-folder
 returns-clause-folder g c =
@@ -62,8 +62,8 @@ returns-clause-folder g c =
     subst (λ files. OnOk c.append-2.result (Holds four c.args.k files))
     (one_file c.holds_law.ensures.again front back bytes (both front back (length bytes / 2) bytes c.split_at.ensures.front c.split_at.ensures.back))
     (c.holds_law.ensures.appended three four c.args.k 0 back then c.append-2.result last.kept last.step
-      (c.holds_law.ensures.appended two three c.args.k 0 front now (Ok c.in_ok-append.field-0) more.kept more.step
-        (c.holds_law.ensures.made one two create c.args.k no_files (Ok c.in_ok-create.field-0) made.kept refl made.step c.requires)))
+    (c.holds_law.ensures.appended two three c.args.k 0 front now (Ok c.in_ok-append.field-0) more.kept more.step
+    (c.holds_law.ensures.made one two create c.args.k no_files (Ok c.in_ok-create.field-0) made.kept refl made.step c.requires)))
 
 pub returns-clause-objects : goal.returns-clause-objects
 returns-clause-objects g c =
