@@ -3,7 +3,8 @@
 //! A store is a journal of steps, each made by one installer. The world that a journal makes has the
 //! files and the listings at their digests, and the temporary files of each number. Which steps are
 //! lawful is a definition, and the laws say what lawful steps of any number of installers, in any
-//! order, leave: a sound world, in which what was published stays.
+//! order, leave: a sound world, in which what was published stays. Further laws say what an installer
+//! knows after each of its calls, and which call that allows.
 #![tactic(auto)]
 
 mod bytes;

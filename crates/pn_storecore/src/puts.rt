@@ -38,6 +38,18 @@ fn claim<D: StoreDisk>(disk: &mut D, k: u32) -> Result<bool, DevFault>
     disk.claim(k)
 }
 
+// Adds bytes to the one file of a held folder.
+fn add<D: StoreDisk>(disk: &mut D, k: u32, more: &[u8]) -> Result<(), DevFault>
+    requires { (bytes : List ℕ) × Holds (D.seen disk.old) k (files_with no_files 0 (Some bytes)) }
+    ensures folder { (bytes : List ℕ) → Holds (D.seen disk.old) k (files_with no_files 0 (Some bytes)) → OnOk result (Holds (D.seen disk.new) k (files_with no_files 0 (Some (bytes ++ more.now)))) }
+    ensures left { Leaves (step.Append k 0 more.now) (D.seen disk.old) (D.seen disk.new) }
+{
+    asks_law();
+    holds_law();
+    leaves_law();
+    disk.append(k, 0, more)
+}
+
 // Writes a file in two pieces.
 fn write<D: StoreDisk>(disk: &mut D, k: u32, bytes: &[u8]) -> Result<(), DevFault>
     requires { Holds (D.seen disk.old) k no_files }
@@ -49,8 +61,8 @@ fn write<D: StoreDisk>(disk: &mut D, k: u32, bytes: &[u8]) -> Result<(), DevFaul
     leaves_law();
     let (front, back) = bytes.split_at(bytes.len() / 2);
     disk.create(k, 0)?;
-    disk.append(k, 0, front)?;
-    disk.append(k, 0, back)
+    add(disk, k, front)?;
+    add(disk, k, back)
 }
 
 // Moves the file of a held folder to the address of its bytes.
