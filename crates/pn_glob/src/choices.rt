@@ -1,6 +1,5 @@
 // Reading of path patterns: the texts without braces that they stand for.
-ghost use Rattle.std.specs.Prelude.{◌≡◌, ◌++◌, ◌∷◌, ◌<◌, ◌≤◌, ℕ, List, [], length, map, IfOk, IfErr, OnOk, true, false};
-ghost use Rattle.std.specs.List.{list_all};
+ghost use Rattle.std.specs.Prelude.{◌≡◌, ◌++◌, ◌∷◌, ◌<◌, ◌≤◌, [], length, map, IfOk, IfErr, OnOk, true, false};
 ghost use Rattle.pn_glob.specs.Bytes.{is_bracket};
 ghost use Rattle.pn_glob.specs.Grammar.{Spells, each_with, is_inner, is_plain};
 ghost use Rattle.pn_glob.specs.Reading.{ChoiceAt, FrontOf, Grown, NoChoice, Stops, StopsIn, starts_with};
