@@ -80,7 +80,7 @@ chosen-turned cs _ _ (one x h) = record { ended = []; last = each_with cs x; who
 chosen-turned cs _ _ (more u x ds c few h) =
     let w = chosen-turned cs u ds c in
     let comma : turn (within cs w.ended w.last) 44 ≡ within cs ds cs =
-        ap (λ (z : List (List ℕ)). chosen_turn cs z 44) (sym w.whole) ∙ few-turn cs ds 44 few in
+    ap (λ (z : List (List ℕ)). chosen_turn cs z 44) (sym w.whole) ∙ few-turn cs ds 44 few in
     record {
       ended = ds;
       last = each_with cs x;

@@ -1,8 +1,8 @@
 //! Patterns of paths and of names, and what lists of them match.
 //!
-//! A list is read exactly by the grammar of patterns, and a refusal names the first bad place. A pattern with braces
-//! stands for texts without them, and contracts see a list as those texts. Matching takes no memory, and no more steps
-//! than the length of the pattern times the length of the text.
+//! A list is read exactly by the grammar of patterns, a refusal names the first bad place, and no texts have two answers.
+//! A pattern with braces stands for texts without them, and contracts see a list as those texts. Matching takes no memory,
+//! and no more steps than the length of the pattern times the length of the text.
 #![tactic(auto)]
 
 mod bytes;
