@@ -1,49 +1,31 @@
 // Compares `holds` with the semver library that npm carries, on pairs of a range and a version: generated ones, and the
 // ranges of the manifests that npm carries. Pairs where this project's rules differ by design are counted by rule.
 // Usage: node tools/check-ranges.mjs [PATH OF range_check]
-import { execFileSync, spawnSync } from 'node:child_process';
-import { existsSync, readdirSync, readFileSync, statSync } from 'node:fs';
+import { readdirSync, readFileSync, statSync } from 'node:fs';
 import { createRequire } from 'node:module';
-import { dirname, join } from 'node:path';
-import { fileURLToPath } from 'node:url';
+import { join } from 'node:path';
+import { sequence } from './generated.mjs';
+import { npmFolder } from './npm.mjs';
+import { built, finish, run } from './program.mjs';
 
 const skip = (why) => {
   console.log(`check-ranges: skipped: ${why}`);
   process.exit(0);
 };
 
-const here = dirname(fileURLToPath(import.meta.url));
-const binary = process.argv[2] ?? join(here, '..', 'crates', 'range_check', 'out', 'range_check');
-
-let root;
-try {
-  root = execFileSync('npm', ['root', '-g'], { encoding: 'utf8' }).trim();
-} catch {
-  skip('no npm');
-}
-const npm = join(root, 'npm');
-let semver;
-try {
-  semver = createRequire(join(npm, 'package.json'))('semver');
-} catch {
-  skip('npm carries no semver');
-}
-if (!existsSync(binary)) {
-  if (process.argv[2] !== undefined) {
-    console.log(`check-ranges: there is no ${binary}`);
-    process.exit(1);
+const carriedSemver = (npm) => {
+  try {
+    return createRequire(join(npm, 'package.json'))('semver');
+  } catch {
+    return skip('npm carries no semver');
   }
-  // the kit builds what it has proved
-  spawnSync('rt', ['run'], { cwd: join(here, '..', 'crates', 'range_check'), input: '' });
-}
-if (!existsSync(binary)) skip(`there is no ${binary}, and no rt to build it`);
-
-// A fixed sequence of numbers.
-let seed = 20240229;
-const below = (n) => {
-  seed = (Math.imul(seed, 1103515245) + 12345) >>> 0;
-  return (seed >>> 8) % n;
 };
+
+const npm = npmFolder() ?? skip('no npm');
+const semver = carriedSemver(npm);
+const binary = process.argv[2] ?? built('range_check') ?? skip("the kit's command rt is missing");
+
+const below = sequence(20240229);
 const pick = (list) => list[below(list.length)];
 
 const number = () => pick(['0', '0', '1', '1', '2', '3', '10']);
@@ -131,28 +113,21 @@ const rules = [
   ['blanks other than space and tab, read there alone', (r, here, there) => here === 'refused' && there !== 'refused' && /[^\S \t]/.test(r)],
 ];
 
-const run = spawnSync(binary, { input: pairs.map(([r, v]) => `${r}\t${v}\n`).join(''), encoding: 'utf8', maxBuffer: 1 << 28 });
-if (run.status !== 0) {
-  console.log(`check-ranges: ${binary} ended with ${run.status}`);
-  process.exit(1);
-}
-const ours = run.stdout.trimEnd().split('\n');
-if (ours.length !== pairs.length) {
-  console.log(`check-ranges: ${pairs.length} pairs, ${ours.length} answers`);
-  process.exit(1);
-}
+const { status, out } = run(binary, [], { input: pairs.map(([r, v]) => `${r}\t${v}\n`).join('') });
+const ours = out.trimEnd().split('\n');
+const problems = [];
+if (status !== 0) problems.push(`${binary} ended with ${status}`);
+if (ours.length !== pairs.length) problems.push(`${pairs.length} pairs, ${ours.length} answers`);
+if (ranges.size === 0) problems.push('no manifest that npm carries has a range');
 
 const counts = new Map(rules.map(([name]) => [name, 0]));
-const wrong = [];
 for (let i = 0; i < pairs.length; i += 1) {
   const answer = theirs(pairs[i]);
   if (answer === ours[i]) continue;
   const rule = rules.find(([, applies]) => applies(pairs[i][0], ours[i], answer));
-  if (rule === undefined) wrong.push(`${JSON.stringify(pairs[i][0])} ${pairs[i][1]}: ${ours[i]} here, ${answer} there`);
+  if (rule === undefined) problems.push(`${JSON.stringify(pairs[i][0])} ${pairs[i][1]}: ${ours[i]} here, ${answer} there`);
   else counts.set(rule[0], counts.get(rule[0]) + 1);
 }
 console.log(`check-ranges: ${pairs.length} pairs, semver ${semver.SEMVER_SPEC_VERSION}, ${ranges.size} ranges of manifests`);
 for (const [name, count] of counts) console.log(`  by design: ${name}: ${count}`);
-for (const line of wrong.slice(0, 50)) console.log(`  differs: ${line}`);
-console.log(`check-ranges: ${wrong.length} other differences`);
-process.exit(wrong.length === 0 ? 0 : 1);
+finish('check-ranges', problems);

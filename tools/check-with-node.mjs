@@ -1,13 +1,13 @@
 // Installs projects, compares the trees with what the manifests say, and compares what Node's own lookup finds in them
 // with what each package declared: the demo, generated projects, and a project of the packages that npm carries.
 // Usage: node tools/check-with-node.mjs [PROGRAM]
-import { execFileSync } from 'node:child_process';
-import { cpSync, existsSync, readFileSync, symlinkSync } from 'node:fs';
+import { cpSync, readFileSync, symlinkSync } from 'node:fs';
 import { basename, join } from 'node:path';
 import { generate } from './generated.mjs';
-import { buildFindCheck, compareLoads, compareLookup, compareOdd, hasFindCheck, questionsOf } from './lookups.mjs';
+import { compareLoads, compareLookup, compareOdd, questionsOf } from './lookups.mjs';
+import { npmFolder } from './npm.mjs';
 import { installedTree, isExact, isName, reached, readManifest } from './packages.mjs';
-import { build, finish, program, run, top } from './program.mjs';
+import { build, built, finish, program, run, top } from './program.mjs';
 import { differences, entriesOf, put, temporary } from './trees.mjs';
 
 // Installs the project, and compares the report, the tree, and what else the project's folder has.
@@ -52,25 +52,25 @@ const copyDemo = (project) => {
   put(capital, { empty: null });
 };
 
-const checkDemo = () => {
+const checkDemo = (findCheck) => {
   const project = join(temporary(), 'hello');
   copyDemo(project);
   const registry = join(project, 'pnpm-rs-registry');
   const { packages, problems } = install(project, registry, {});
   const questions = questionsOf(project, packages, [...namesIn(registry), ...strange]);
   tell('the demo', packages, questions);
-  return [...problems, ...compareLookup(questions), ...compareLoads(questions), ...compareOutput(project)];
+  return [...problems, ...compareLookup(questions, findCheck), ...compareLoads(questions), ...compareOutput(project)];
 };
 
 const GENERATED = 20;
 
 // Generated projects, whose lookups are asked together.
-const checkGenerated = () => {
+const checkGenerated = (findCheck) => {
   const seeds = Array.from({ length: GENERATED }, (_, i) => i + 1);
   const all = seeds.map(checkSeed);
   const questions = all.flatMap((one) => one.questions);
   tell(`${GENERATED} generated projects`, all.flatMap(({ packages }) => packages), questions);
-  return [...all.flatMap(({ problems }) => problems), ...compareLookup(questions)];
+  return [...all.flatMap(({ problems }) => problems), ...compareLookup(questions, findCheck)];
 };
 
 const checkSeed = (seed) => {
@@ -127,45 +127,35 @@ const makeProject = (project, registry, plain) => {
   put(project, { ...asFile(manifest), 'src/app.js': '' });
 };
 
-// The folder of the packages that npm carries.
-const npmModules = () => {
-  try {
-    const root = execFileSync('npm', ['root', '-g'], { encoding: 'utf8', stdio: ['ignore', 'pipe', 'ignore'] }).trim();
-    const modules = join(root, 'npm', 'node_modules');
-    return existsSync(modules) ? modules : undefined;
-  } catch {
-    return undefined;
-  }
-};
-
-const checkCarried = () => {
-  const modules = npmModules();
-  if (modules === undefined) {
+const checkCarried = (findCheck) => {
+  const npm = npmFolder();
+  if (npm === undefined) {
     console.log("npm's packages: skipped, there is no npm or no folder of its packages");
     return [];
   }
   const folder = temporary();
   const [project, registry] = [join(folder, 'project'), join(folder, 'registry')];
-  const made = run(process.execPath, [join(top, 'tools', 'make-registry.mjs'), modules, registry]);
+  const made = run(process.execPath, [join(top, 'tools', 'make-registry.mjs'), join(npm, 'node_modules'), registry]);
   const plain = plainPackages(registry);
   makeProject(project, registry, plain);
   const { packages, problems } = install(project, registry, { PNPM_RS_REGISTRY: registry });
   if (made.status !== 0) problems.push(`make-registry ended with ${made.status}: ${made.err.trim()}`);
   const questions = questionsOf(project, packages, [...plain.map(([name]) => name), ...strange]);
+  if (plain.length === 0) problems.push('npm carries no package that needs nothing');
   tell("npm's packages", packages, questions);
-  return [...problems, ...compareLookup(questions)];
+  return [...problems, ...compareLookup(questions, findCheck)];
 };
 
-const checkOdd = () => {
-  if (hasFindCheck()) return compareOdd();
-  console.log('find_check: skipped, it is not built');
+const checkOdd = (findCheck) => {
+  if (findCheck !== undefined) return compareOdd(findCheck);
+  console.log("find_check: skipped, the kit's command rt is missing");
   return [];
 };
 
 try {
   build();
-  buildFindCheck();
-  finish('check-with-node', [...checkDemo(), ...checkGenerated(), ...checkCarried(), ...checkOdd()]);
+  const findCheck = built('find_check');
+  finish('check-with-node', [checkDemo, checkGenerated, checkCarried, checkOdd].flatMap((check) => check(findCheck)));
 } catch (e) {
   console.log(`check-with-node: ${e.message}`);
   process.exitCode = 1;

@@ -8,7 +8,7 @@ const versions = ['1.0.0', '1.0.0-a', '1.0.0-a.1', '1.0.1', '2.0.0', '10.0.0'];
 const files = ['index.js', 'index/a.js', 'index-a/a', 'a', 'b/a/b', 'b.a', 'B', '.a', '.b/c', '...', 'a b', 'ü/ü', '@a/a', '-'];
 
 // A fixed sequence of numbers for each seed.
-const sequence = (seed) => {
+export const sequence = (seed) => {
   let state = seed;
   return (count) => {
     state = (Math.imul(state, 1103515245) + 12345) >>> 0;

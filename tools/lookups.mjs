@@ -1,22 +1,11 @@
 // What names find from folders, for the checks: what the manifests say, what Node answers, and what find_check answers.
-import { spawnSync } from 'node:child_process';
 import { existsSync } from 'node:fs';
 import { join } from 'node:path';
-import { edgesOf, homeOf, readManifest } from './packages.mjs';
-import { ask, top } from './program.mjs';
+import { edgesOf, homeOf, inModules, readManifest } from './packages.mjs';
+import { ask, built, top } from './program.mjs';
 import { entriesOf, put, temporary } from './trees.mjs';
 
-const findCheck = join(top, 'crates', 'find_check', 'out', 'find_check');
 const askNode = join(top, 'tools', 'ask-node.mjs');
-
-// Builds the program that answers by the proved calls, where it isn't built yet and the kit's command is there.
-export const buildFindCheck = () => {
-  if (!existsSync(findCheck)) spawnSync('rt', ['run'], { cwd: join(top, 'crates', 'find_check'), input: '' });
-};
-
-export const hasFindCheck = () => existsSync(findCheck);
-
-const inModules = (path) => path === 'node_modules' || path.startsWith('node_modules/');
 
 // The folder and the folders below it, those in its `node_modules` aside.
 const foldersAt = (folder) => {
@@ -51,11 +40,12 @@ const compareAnswers = (who, questions, answers, wanted) =>
   questions.flatMap(({ folder, name }, i) =>
     answers[i] === wanted[i] ? [] : [`${who} finds ${answers[i]} by ${name} from ${folder}, not ${wanted[i]}`]);
 
-// Where Node or find_check finds something else than the manifests say.
-export const compareLookup = (questions) => {
+// Where Node, or find_check where it is given, finds something else than the manifests say.
+export const compareLookup = (questions, findCheck) => {
   const wanted = questions.map(({ means }) => means);
   const problems = compareAnswers('node', questions, byNode(questions), wanted);
-  if (hasFindCheck()) problems.push(...compareAnswers('find_check', questions, ask(findCheck, [], pairs(questions)), wanted));
+  if (findCheck !== undefined) problems.push(...compareAnswers('find_check', questions, ask(findCheck, [], pairs(questions)), wanted));
+  if (!wanted.some((one) => one !== '-')) problems.push('no lookup has to find a package');
   return problems;
 };
 
@@ -95,7 +85,7 @@ const oddNames = ['x', 'y', 'z', 'w', '@s/t', '@s/u', 'dot', 'dots', 'file', 'be
   'chain-1', 'chain-39', 'chain-40', 'chain-41', 'chain-42'];
 
 // Where find_check finds something else than Node in the odd tree.
-export const compareOdd = () => {
+export const compareOdd = (findCheck) => {
   const folder = temporary();
   put(folder, oddTree(folder));
   const folders = [...entriesOf(folder)].filter(([, entry]) => entry === 'folder').map(([path]) => join(folder, path));

@@ -4,7 +4,7 @@
 // is. Ends with 1 where a package was left out.
 import { copyFileSync, existsSync, lstatSync, mkdirSync, readdirSync, renameSync, rmSync } from 'node:fs';
 import { dirname, join } from 'node:path';
-import { isExact, isName, readManifest } from './packages.mjs';
+import { inModules, isExact, isName, readManifest } from './packages.mjs';
 import { differences, entriesOf } from './trees.mjs';
 
 const usage = `usage: make-registry.mjs FROM TO
@@ -34,11 +34,9 @@ const inScope = (modules, scope) => shown(join(modules, scope)).map((name) => `$
 // The names of the packages in a node_modules folder, scoped ones included.
 const namesIn = (modules) => shown(modules).flatMap((name) => (name.startsWith('@') ? inScope(modules, name) : [name]));
 
-const isOwnModules = (path) => path === 'node_modules' || path.startsWith('node_modules/');
-
 // The package's regular files.
 const filesOf = (folder) => {
-  return new Map([...entriesOf(folder)].filter(([path, entry]) => !isOwnModules(path) && Buffer.isBuffer(entry)));
+  return new Map([...entriesOf(folder)].filter(([path, entry]) => !inModules(path) && Buffer.isBuffer(entry)));
 };
 
 const copyFiles = (folder, files, target) => {

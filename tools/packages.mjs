@@ -45,6 +45,9 @@ export const reached = (project, registry) => {
 
 const beside = (name, version) => `node_modules/.pnpm/${name.replace('/', '+')}@${version}/node_modules`;
 
+// Whether a path from a package's folder leads into its own `node_modules`.
+export const inModules = (path) => path === 'node_modules' || path.startsWith('node_modules/');
+
 // The path of a package's folder from the project's.
 export const homeOf = (name, version) => `${beside(name, version)}/${name}`;
 

@@ -1,5 +1,6 @@
 // Runs the programs of this repository, for the checks.
 import { spawnSync } from 'node:child_process';
+import { existsSync, readdirSync, statSync, utimesSync } from 'node:fs';
 import { dirname, join } from 'node:path';
 import { fileURLToPath } from 'node:url';
 
@@ -26,6 +27,34 @@ export const run = (file, words, options = {}) => {
 export const build = () => {
   const ended = run(program(), [], { cwd: top });
   if (ended.status !== 2) throw new Error(`${program()} ended with ${ended.status}: ${ended.err.trim()}`);
+};
+
+const isSource = (name) => /\.(rt|antt)$/.test(name);
+
+const sourcesBelow = (folder) =>
+  readdirSync(folder, { withFileTypes: true }).flatMap((one) => {
+    const path = join(folder, one.name);
+    if (one.isDirectory()) return one.name === 'out' ? [] : sourcesBelow(path);
+    return isSource(one.name) ? [path] : [];
+  });
+
+const timeOf = (path) => statSync(path).mtimeMs;
+
+// Whether a program is there and no source is newer.
+const isBuilt = (file) =>
+  existsSync(file) && [join(top, 'crates.txt'), ...sourcesBelow(join(top, 'crates'))].every((path) => timeOf(path) <= timeOf(file));
+
+// The path of a program of this repository, which reads standard input. It is built by the kit's command where it isn't
+// built yet or a source is newer; undefined where there is no such command.
+export const built = (name) => {
+  const folder = join(top, 'crates', name);
+  const file = join(folder, 'out', name);
+  if (isBuilt(file)) return file;
+  const ended = spawnSync('rt', ['run'], { cwd: folder, input: '', encoding: 'utf8', maxBuffer: 1 << 28 });
+  if (ended.error?.code === 'ENOENT') return undefined;
+  if (ended.status !== 0 || !existsSync(file)) throw new Error(`${name} can't be built: ${ended.stdout}${ended.stderr}`);
+  utimesSync(file, new Date(), new Date());
+  return file;
 };
 
 // Asks a program lines `<folder><tab><name>`, and answers the lines that it gives.

@@ -9,6 +9,7 @@ pub mod LineTexts
 pub mod OneText
 pub mod PathTexts
 pub mod RelPaths
+pub mod Chains
 pub mod Rising
 pub mod Sound
 pub mod Twice

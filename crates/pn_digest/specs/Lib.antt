@@ -4,3 +4,4 @@ pub mod Hashing
 pub mod Lines
 pub mod Listing
 pub mod ListingFaults
+pub mod PlannedTrees

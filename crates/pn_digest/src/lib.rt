@@ -5,6 +5,8 @@
 //!
 //! A listing is the files of a package with their digests, in byte order of their paths. It has one text, a line a file,
 //! and only such texts are read; a listing's integrity is that of its text.
+//!
+//! A planned tree has what is to stand at which path: folders, links, files of a store, and files with bytes of their own.
 #![tactic(auto)]
 
 mod digest;
@@ -15,12 +17,16 @@ mod hasher;
 mod integrity;
 mod lines;
 mod listing;
+mod planned;
+mod tree;
 
 pub use digest::Digest;
 pub use fault::ListingFault;
 pub use hasher::Hasher512;
 pub use integrity::{Integrity, integrity_law};
 pub use listing::{Listing, listing_law};
+pub use planned::Planned;
+pub use tree::PlannedTree;
 
 #[cfg(test)]
 mod tests;

@@ -1,5 +1,5 @@
 use super::*;
-use pn_text::RelPath;
+use pn_text::{AbsPath, RelPath};
 use std::alloc::Global;
 use std::test::Fail;
 
@@ -166,4 +166,31 @@ fn only_the_texts_of_listings_are_read(rt: HostRuntime) -> Result<(), Fail> {
 
 fn is_refused(alloc: Global, bytes: &[u8]) -> bool {
     Listing::read(alloc, bytes).err() == Some(ListingFault::NotListing)
+}
+
+fn planned(alloc: Global, paths: &[&str]) -> Result<Vec<(AbsPath, Planned)>, Fail> {
+    let mut entries = Vec::new(alloc);
+    for path in paths {
+        entries.push((AbsPath::read(alloc, path)?, Planned::Folder))?;
+    }
+    Ok(entries)
+}
+
+fn length_of(tree: Option<PlannedTree>) -> Option<usize> {
+    match tree {
+        Some(tree) => Some(tree.as_slice().len()),
+        None => None,
+    }
+}
+
+#[test]
+fn planned_trees_rise_in_byte_order(rt: HostRuntime) -> Result<(), Fail> {
+    let alloc = rt.alloc();
+    let rising = planned(alloc, &["/a", "/a-b", "/a/b"])?;
+    assert_eq!(rt; length_of(PlannedTree::of(rising)), Some(3));
+    let turned = planned(alloc, &["/a/b", "/a-b"])?;
+    assert_eq!(rt; length_of(PlannedTree::of(turned)), None);
+    let twice = planned(alloc, &["/a", "/a"])?;
+    assert_eq!(rt; length_of(PlannedTree::of(twice)), None);
+    Ok(())
 }

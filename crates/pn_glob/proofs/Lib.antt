@@ -3,3 +3,5 @@ pub mod PartSteps
 pub mod Braces
 pub mod Heads
 pub mod LawProofs
+pub mod Turns
+pub mod Settled

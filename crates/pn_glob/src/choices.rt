@@ -1,6 +1,5 @@
 // Reading of path patterns: the texts without braces that they stand for.
-ghost use Rattle.std.specs.Prelude.{◌≡◌, ◌++◌, ◌∷◌, ◌<◌, ◌≤◌, ℕ, List, [], length, map, IfOk, IfErr, OnOk, true, false};
-ghost use Rattle.std.specs.List.{list_all};
+ghost use Rattle.std.specs.Prelude.{◌≡◌, ◌++◌, ◌∷◌, ◌<◌, ◌≤◌, [], length, map, IfOk, IfErr, OnOk, true, false};
 ghost use Rattle.pn_glob.specs.Bytes.{is_bracket};
 ghost use Rattle.pn_glob.specs.Grammar.{Spells, each_with, is_inner, is_plain};
 ghost use Rattle.pn_glob.specs.Reading.{ChoiceAt, FrontOf, Grown, NoChoice, Stops, StopsIn, starts_with};
@@ -94,31 +93,49 @@ fn push_each(
     Ok(())
 }
 
+// The same in the texts' own places.
+fn move_each(texts: Vec<Vec<u8>>, more: &[u8], grown: &mut Vec<Vec<u8>>) -> Result<(), Stop>
+    ensures ok { OnOk result (map (λ v. v.items) grown.new.items
+        ≡ map (λ v. v.items) grown.old.items ++ each_with (map (λ v. v.items) texts.items) more.now) }
+    ensures err { IfErr result (λ s. s ≡ Stop.Memory) }
+{
+    for mut text in texts {
+        text.extend_from_slice(more)?;
+        grown.push(text)?;
+    }
+    Ok(())
+}
+
 fn are_many(texts: &[Vec<u8>]) -> bool
     ensures { (result ≡ true → 64 < length texts.now) × (result ≡ false → length texts.now ≤ 64) }
 {
     texts.len() > 64
 }
 
-// The texts with each choice of a brace behind them, and what is behind the brace.
+// The texts with each choice of a brace behind them, and what is behind the brace. The last choice goes behind the texts
+// themselves, so that a brace of one choice copies nothing.
 fn brace<'a>(
     alloc: Global,
-    texts: &[Vec<u8>],
+    texts: Vec<Vec<u8>>,
     text: &'a [u8],
 ) -> Result<(Vec<Vec<u8>>, &'a [u8]), Stop>
-    ensures ok { IfOk result (λ r. Grown (map (λ v. v.items) texts.now) (123 ∷ text.now) (map (λ v. v.items) r.0.items) r.1.now) }
-    ensures err { IfErr result (StopsIn (map (λ v. v.items) texts.now) (123 ∷ text.now)) }
+    ensures ok { IfOk result (λ r. Grown (map (λ v. v.items) texts.items) (123 ∷ text.now) (map (λ v. v.items) r.0.items) r.1.now) }
+    ensures err { IfErr result (StopsIn (map (λ v. v.items) texts.items) (123 ∷ text.now)) }
 {
     let mut grown = Vec::new(alloc);
     let mut rest = text;
     'choices: loop {
         let (more, b, behind) = choice(rest)?;
-        push_each(alloc, texts, more, &mut grown)?;
+        if b == b'}' {
+            move_each(texts, more, &mut grown)?;
+            if are_many(&grown) {
+                return Err(Stop::TooMany);
+            }
+            return Ok((grown, behind));
+        }
+        push_each(alloc, &texts, more, &mut grown)?;
         if are_many(&grown) {
             return Err(Stop::TooMany);
-        }
-        if b == b'}' {
-            return Ok((grown, behind));
         }
         rest = behind;
     }
@@ -127,35 +144,30 @@ fn brace<'a>(
 // The texts with the bytes before the next bracket behind them, and what is behind those.
 fn plain<'a>(
     alloc: Global,
-    texts: &[Vec<u8>],
+    texts: Vec<Vec<u8>>,
     text: &'a [u8],
 ) -> Result<(Vec<Vec<u8>>, &'a [u8]), Stop>
     requires { starts_with is_plain text.now ≡ true }
-    ensures ok { IfOk result (λ r. Grown (map (λ v. v.items) texts.now) text.now (map (λ v. v.items) r.0.items) r.1.now) }
+    ensures ok { IfOk result (λ r. Grown (map (λ v. v.items) texts.items) text.now (map (λ v. v.items) r.0.items) r.1.now) }
     ensures err { IfErr result (λ s. s ≡ Stop.Memory) }
 {
     let rest = behind_plain(text);
     let mut grown = Vec::new(alloc);
-    push_each(
-        alloc,
-        texts,
-        text.split_at(text.len() - rest.len()).0,
-        &mut grown,
-    )?;
+    move_each(texts, text.split_at(text.len() - rest.len()).0, &mut grown)?;
     Ok((grown, rest))
 }
 
 // The texts with the next piece of a pattern behind them, and what is behind that.
 fn piece<'a>(
     alloc: Global,
-    texts: &[Vec<u8>],
+    texts: Vec<Vec<u8>>,
     text: &'a [u8],
     first: u8,
     behind: &'a [u8],
 ) -> Result<(Vec<Vec<u8>>, &'a [u8]), Stop>
     requires { text.now ≡ first ∷ behind.now }
-    ensures ok { IfOk result (λ r. Grown (map (λ v. v.items) texts.now) text.now (map (λ v. v.items) r.0.items) r.1.now) }
-    ensures err { IfErr result (StopsIn (map (λ v. v.items) texts.now) text.now) }
+    ensures ok { IfOk result (λ r. Grown (map (λ v. v.items) texts.items) text.now (map (λ v. v.items) r.0.items) r.1.now) }
+    ensures err { IfErr result (StopsIn (map (λ v. v.items) texts.items) text.now) }
 {
     if first == b'{' {
         return brace(alloc, texts, behind);
@@ -187,7 +199,8 @@ fn empty_text(alloc: Global) -> Result<Vec<Vec<u8>>, Stop>
     Ok(texts)
 }
 
-/// The texts without braces that a path pattern stands for.
+/// The texts without braces that a path pattern stands for. They are copied only at braces of several choices, of which
+/// there are at most seven before the texts are too many, so this takes time linear in the pattern's length.
 pub(crate) fn texts_of(alloc: Global, body: &[u8]) -> Result<Vec<Vec<u8>>, Stop>
     ensures ok { IfOk result (λ v. Spells body.now (map (λ v. v.items) v.items)) }
     ensures err { IfErr result (Stops body.now) }
@@ -195,7 +208,7 @@ pub(crate) fn texts_of(alloc: Global, body: &[u8]) -> Result<Vec<Vec<u8>>, Stop>
     let mut texts = empty_text(alloc)?;
     let mut rest = body;
     'pieces: while let Some((b, behind)) = next(rest) {
-        let (grown, after) = piece(alloc, &texts, rest, b, behind)?;
+        let (grown, after) = piece(alloc, texts, rest, b, behind)?;
         texts = grown;
         rest = after;
     }

@@ -1,5 +1,5 @@
 // Laws of patterns in the subject's own words. The definitions by which lists are read and match obey them.
-ghost use Rattle.pn_glob.specs.Laws.{LiteralLaw, MatchingLaw, NegativeLaw, StarLaw};
+ghost use Rattle.pn_glob.specs.Laws.{LiteralLaw, MatchingLaw, NegativeLaw, SettledLaw, StarLaw};
 
 /// Patterns match exactly what the relation of gaps and pieces says.
 pub fn matching_law()
@@ -19,4 +19,9 @@ pub fn star_law()
 /// A negative pattern takes away what it matches and nothing else.
 pub fn negative_law()
     ensures { NegativeLaw }
+{}
+
+/// Texts have one answer, memory aside: one list that they are read as, or one refusal, and never both.
+pub fn settled_law()
+    ensures { SettledLaw }
 {}

@@ -1,5 +1,5 @@
 // Lists of patterns.
-ghost use Rattle.std.specs.Prelude.{◌≡◌, ◌++◌, ◌∷◌, ℕ, List, [], map, if◌then◌else◌, MatchOption, IfOk, IfErr, OnOk, true, false};
+ghost use Rattle.std.specs.Prelude.{◌≡◌, ◌∷◌, [], map, MatchOption, IfOk, IfErr, OnOk};
 ghost use Rattle.std.specs.List.{list_any};
 ghost use Rattle.pn_glob.specs.ListSteps.{Added, IsBad, fault_of};
 ghost use Rattle.pn_glob.specs.Lists.{AreNames, ArePaths, ReadAll, Refused, or_star};

@@ -5,7 +5,7 @@ use Rattle.std.specs.List.{list_all}
 use Rattle.std.proofs.lemmas.Bool.{cases_Bool}
 use Rattle.std.proofs.lemmas.Bool.Decides.{nat_tests}
 use Rattle.semver.specs.Grammar.{is_identifier_byte}
-use Rattle.pn_ranges.specs.Bytes.{is_space, is_lead, is_wild, is_digit, number_at, number_from, starts_with}
+use Rattle.pn_ranges.specs.Bytes.{is_space, is_lead, is_wild, is_digit, is_stop, number_at, number_from, starts_with}
 use Rattle.semver.specs.Grammar.{is_build_identifier, is_pre_identifier, has_leading_zero}
 use Rattle.semver.specs.Order.{is_numeric}
 use Rattle.pn_ranges.specs.Grammar.{AreGaps, AreIdentifiers, AreSpaces, IsBuild, IsComparator, IsEnd, IsNumber, IsPart, IsPartial, IsSign, IsTail}
@@ -71,10 +71,7 @@ stays-on s test stay (b ∷ run) rest all h = elim (cases_Bool (test b)) [
 ]
 
 -- the bytes of one kind are none of another
-abbrev pub is_stop : ℕ → Bool
-is_stop b = is_space b || (b == 124)
-
-stop-digit : (b : ℕ) → is_stop b ≡ true → is_digit b ≡ false
+pub stop-digit : (b : ℕ) → is_stop b ≡ true → is_digit b ≡ false
 stop-digit b h = grind (arith, nat_tests)
 
 stop-word : (b : ℕ) → is_stop b ≡ true → is_identifier_byte b ≡ false
@@ -109,9 +106,6 @@ digit-word b h = grind (arith, nat_tests)
 
 word-digit : (b : ℕ) → is_identifier_byte b ≡ false → is_digit b ≡ false
 word-digit b h = grind (arith, nat_tests)
-
-pub lead-space : (b : ℕ) → is_lead b ≡ true → is_space b ≡ false
-lead-space b h = grind (arith, nat_tests)
 
 lead-digit : (b : ℕ) → is_lead b ≡ true → is_digit b ≡ false
 lead-digit b h = grind (arith, nat_tests)

@@ -1,18 +1,16 @@
 -- Ranges have no `|`, so that a set is split into them in one way.
-use Rattle.std.proofs.Common.{◌≡◌, ℕ, Bool, true, List, [], ◌∷◌, ◌++◌, refl, sym, ap, subst, ◌∙◌, arith, append_assoc, append-nil}
+use Rattle.std.proofs.Common.{◌≡◌, ℕ, Bool, true, List, [], ◌∷◌, ◌++◌, refl, arith}
 use Rattle.std.specs.Prelude.{◌==◌, not}
 use Rattle.std.specs.List.{list_all}
 use Rattle.std.proofs.lemmas.Bool.Decides.{nat_tests}
 use Rattle.pn_ranges.specs.declared.comparator.Sign.{Sign}
-use Rattle.pn_ranges.specs.Bytes.{is_space}
-use Rattle.pn_ranges.specs.Grammar.{AreComparators, AreRanges, AreSpaces, IsComparator, IsEnd, IsRange, IsSign}
+use Rattle.pn_ranges.specs.Bytes.{is_body, is_space}
+use Rattle.pn_ranges.specs.Grammar.{AreComparators, AreSpaces, IsComparator, IsEnd, IsRange, IsSign}
 use Rattle.pn_ranges.specs.Grammar as g
 use Rattle.pn_ranges.specs.Limits.{Limit}
-use Rattle.pn_ranges.specs.Reading.{SpacedRange}
 use Rattle.pn_ranges.specs.Table.{Named}
-use Rattle.pn_ranges.specs.Unread.{NoRanges}
 use Rattle.pn_ranges.proofs.OverProofs.{all-append}
-use Rattle.pn_ranges.proofs.Same.{all-weaken, end-body, is_body, same-split}
+use Rattle.pn_ranges.proofs.Same.{all-weaken, end-body}
 
 abbrev pub no_bar : ℕ → Bool
 no_bar b = not (b == 124)
@@ -63,21 +61,3 @@ tail-of s t h = cc h
 
 pub no-tail : (s : List ℕ) → 124 ∷ 124 ∷ s ≡ [] → ⊥
 no-tail s h = cc h
-
--- ranges behind a first one and `||`
-after-bars : (front next : List ℕ) → list_all no_bar front ≡ true → NoRanges next → (whole : List ℕ) (k : ℕ) (lss : List (List Limit)) → AreRanges whole k lss
-    → whole ≡ front ++ 124 ∷ 124 ∷ next → ⊥
-after-bars front next all none _ _ _ (g.one s t r k ls a i b) e =
-    let q = same-split no_bar front (124 ∷ 124 ∷ next) (s ++ (t ++ r)) [] all refl (spaced-bars s t r k ls a i b) refl (sym e ∙ sym (append-nil (s ++ (t ++ r)))) in
-    no-tail next q.1
-after-bars front next all none _ _ _ (g.more s t r u k m ls lss a i b w) e =
-    let same : s ++ (t ++ (r ++ 124 ∷ 124 ∷ u)) ≡ (s ++ (t ++ r)) ++ 124 ∷ 124 ∷ u = simp append_assoc in
-    let q = same-split no_bar front (124 ∷ 124 ∷ next) (s ++ (t ++ r)) (124 ∷ 124 ∷ u) all refl (spaced-bars s t r k ls a i b) refl (sym e ∙ same) in
-    none [] m lss refl (subst (λ z. AreRanges z m lss) (sym (tail-of next u q.1)) w)
-
-pub next-none : (text rest next : List ℕ) (k : ℕ) (ls : List Limit) → SpacedRange text k ls rest → rest ≡ 124 ∷ 124 ∷ next → NoRanges next → NoRanges text
-next-none text rest next k ls a d none = λ p m lss b w.
-    let front = p ++ (a.lead ++ (a.front ++ a.spaces)) in
-    let all = all-append no_bar p (a.lead ++ (a.front ++ a.spaces)) (space-bars p b) (spaced-bars a.lead a.front a.spaces k ls a.before a.read a.blank) in
-    let same : p ++ text ≡ front ++ 124 ∷ 124 ∷ next = ap (λ z. p ++ z) (a.split ∙ ap (λ z. a.lead ++ (a.front ++ (a.spaces ++ z))) d) ∙ simp append_assoc in
-    after-bars front next all none (p ++ text) m lss w same

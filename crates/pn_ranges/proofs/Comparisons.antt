@@ -86,3 +86,6 @@ signed-lead e s mid after true p a =
     ap (λ v. if v then first_fault (lead e) mid else first_fault operand mid) (sym p) ∙ ap (first_fault (lead e)) (sym same)
 signed-lead e s mid after false p a =
     ap (λ v. if v then first_fault (lead e) mid else first_fault operand mid) (sym p) ∙ operand-run mid ∙ operand-lead (behind is_space mid) (behind-stops is_space mid) ∙ ap (first_fault (lead later)) (sym a)
+
+pub end-comparator : (t : List ℕ) (n : Named) → IsEnd t n → IsComparator t x.Exact n
+end-comparator t n i = g.comparator [] [] t x.Exact n g.absent refl i refl

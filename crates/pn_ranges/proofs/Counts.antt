@@ -4,7 +4,7 @@ use Rattle.std.specs.Prelude.{◌==◌, ◌+◌}
 use Rattle.std.proofs.lemmas.Bool.Decides.{nat_tests}
 use Rattle.pn_ranges.specs.declared.comparator.Sign.{Sign}
 use Rattle.pn_ranges.specs.declared.comparator.Sign.TheVariants as x
-use Rattle.pn_ranges.specs.Bytes.{is_space, behind, starts_with}
+use Rattle.pn_ranges.specs.Bytes.{is_body, is_space, behind, starts_with}
 use Rattle.pn_ranges.specs.Grammar.{AreComparators, AreGaps, AreRanges, AreSpaces, IsComparator, IsEnd, IsRange, Spells}
 use Rattle.pn_ranges.specs.Grammar as g
 use Rattle.pn_ranges.specs.Limits.{Limit}
@@ -12,17 +12,17 @@ use Rattle.pn_ranges.specs.Table.{Named}
 use Rattle.pn_ranges.specs.Unread.{Closes, ends_range}
 use Rattle.pn_ranges.proofs.Bars.{no-tail, no_bar, spaced-bars, tail-of}
 use Rattle.pn_ranges.proofs.Fronts.{behind-append}
-use Rattle.pn_ranges.proofs.Same.{Shape, behind-operand, comparator-mark, comparator-shape, end-first, end-shape, first-more, head-same, is_body, is_head, is_mark, same-shape, same-split, shape-at}
-use Rattle.pn_ranges.proofs.Unreads.{closes-body, closes-spaces, gap-body}
+use Rattle.pn_ranges.proofs.Same.{Shape, behind-operand, comparator-mark, comparator-shape, end-first, end-shape, first-more, head-same, is_head, is_mark, same-shape, same-split, shape-at}
+use Rattle.pn_ranges.proofs.Closings.{closes-body, closes-spaces, gap-body}
 
 -- where a comparator begins no range ends
 head-bar : (b : ℕ) → is_head b ≡ true → (b == 124) ≡ false
 head-bar b h = grind (arith, nat_tests)
 
-end-open : (t r : List ℕ) (n : Named) → IsEnd t n → ends_range (t ++ r) ≡ false
+pub end-open : (t r : List ℕ) (n : Named) → IsEnd t n → ends_range (t ++ r) ≡ false
 end-open t r n i = let f = first-more is_head t r (end-first t n i) in ap ends_range f.split ∙ head-bar f.byte f.is
 
-comparator-open : (t : List ℕ) (s : Sign) (n : Named) → IsComparator t s n → (r : List ℕ) → ends_range (behind is_space (t ++ r)) ≡ false
+pub comparator-open : (t : List ℕ) (s : Sign) (n : Named) → IsComparator t s n → (r : List ℕ) → ends_range (behind is_space (t ++ r)) ≡ false
 comparator-open _ s n (g.comparator _ p t _ _ g.absent a i j) r = ap ends_range (behind-operand p t r n a i) ∙ end-open t r n i
 comparator-open _ s n (g.comparator _ p t _ _ g.equal a i j) r = refl
 comparator-open _ s n (g.comparator _ p t _ _ g.less a i j) r = refl
@@ -42,7 +42,7 @@ comparators-mark _ _ _ (g.one t s n c fit) r = comparator-mark t s n c r
 comparators-mark _ _ _ (g.more t p u s n k ls c fit a w) r = ap (λ z. starts_with is_mark (behind is_space z)) (append_assoc t (p ++ u) r) ∙ comparator-mark t s n c ((p ++ u) ++ r)
 
 -- two readings of a first comparator
-same-first : (whole t u r q : List ℕ) (s z : Sign) (n m : Named) → Shape (t ++ r) s n r → Shape (u ++ q) z m q → starts_with is_body r ≡ false → starts_with is_body q ≡ false
+pub same-first : (whole t u r q : List ℕ) (s z : Sign) (n m : Named) → Shape (t ++ r) s n r → Shape (u ++ q) z m q → starts_with is_body r ≡ false → starts_with is_body q ≡ false
     → whole ≡ behind is_space (t ++ r) → whole ≡ behind is_space (u ++ q) → r ≡ q
 same-first whole t u r q s z n m a b h k d e =
     (same-shape whole r q s z n m (shape-at whole (t ++ r) r s n d a) (shape-at whole (u ++ q) q z m e b) h k).rest
@@ -56,7 +56,7 @@ ends-open r p y h a further e =
     let w : true ≡ false = sym h ∙ ap (λ z. ends_range (behind is_space z)) e ∙ ap ends_range (behind-gap p y a) ∙ further in
     cc w
 
-more-split : (t p u r : List ℕ) → (t ++ (p ++ u)) ++ r ≡ t ++ (p ++ (u ++ r))
+pub more-split : (t p u r : List ℕ) → (t ++ (p ++ u)) ++ r ≡ t ++ (p ++ (u ++ r))
 more-split t p u r = simp append_assoc
 
 comparators-count : (whole t r : List ℕ) (k : ℕ) (ls : List Limit) → AreComparators t k ls → Closes r → whole ≡ behind is_space (t ++ r)
@@ -81,10 +81,10 @@ comparators-count whole _ r _ _ (g.more t p v s n k ls c fit a w) h e _ q _ _ (g
     ap (λ j. 1 + j) (comparators-count (behind is_space (v ++ r)) v r k ls w h refl y q l js v2 i inner)
 
 -- `A - B` is no list of comparators
-hyphen-split : (a s r b y : List ℕ) → (a ++ (s ++ 45 ∷ (r ++ b))) ++ y ≡ a ++ (s ++ 45 ∷ (r ++ (b ++ y)))
+pub hyphen-split : (a s r b y : List ℕ) → (a ++ (s ++ 45 ∷ (r ++ b))) ++ y ≡ a ++ (s ++ 45 ∷ (r ++ (b ++ y)))
 hyphen-split a s r b y = simp append_assoc
 
-not-hyphen : (whole t r : List ℕ) (k : ℕ) (ls : List Limit) → AreComparators t k ls → Closes r → whole ≡ behind is_space (t ++ r)
+pub not-hyphen : (whole t r : List ℕ) (k : ℕ) (ls : List Limit) → AreComparators t k ls → Closes r → whole ≡ behind is_space (t ++ r)
     → (a s e b y : List ℕ) (low : Named) → IsEnd a low → AreGaps s → whole ≡ behind is_space ((a ++ (s ++ 45 ∷ (e ++ b))) ++ y) → ⊥
 not-hyphen whole _ r _ _ (g.one t z n c fit) h d a s e b y low i p f =
     let back = 45 ∷ (e ++ (b ++ y)) in
@@ -131,7 +131,7 @@ spaced-count whole s t r v k ls a i b sv ev d o u q y m js c j e sy ey f =
     range-count (behind is_space whole) t (r ++ v) k ls i (closes-spaces r v b sv ev) (ap (behind is_space) (d ∙ left) ∙ behind-append is_space s (t ++ (r ++ v)) a)
     u (q ++ y) m js j (closes-spaces q y e sy ey) (ap (behind is_space) (f ∙ right) ∙ behind-append is_space o (u ++ (q ++ y)) c)
 
-bars-split : (s t r u : List ℕ) → s ++ (t ++ (r ++ 124 ∷ 124 ∷ u)) ≡ (s ++ (t ++ r)) ++ 124 ∷ 124 ∷ u
+pub bars-split : (s t r u : List ℕ) → s ++ (t ++ (r ++ 124 ∷ 124 ∷ u)) ≡ (s ++ (t ++ r)) ++ 124 ∷ 124 ∷ u
 bars-split s t r u = simp append_assoc
 
 add-same : (a b c d : ℕ) → a ≡ b → c ≡ d → a + c ≡ b + d

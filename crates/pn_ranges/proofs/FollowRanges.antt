@@ -11,7 +11,7 @@ use Rattle.pn_ranges.specs.Grammar.{AreGaps, AreSpaces, IsComparator, IsEnd, IsS
 use Rattle.pn_ranges.specs.Grammar as g
 use Rattle.pn_ranges.specs.Places.{Turn, first, later, upper, bar, start, gap, closed, dash, far, sign, equal, step, end_step, comparator_step, operand_step}
 use Rattle.pn_ranges.specs.Table.{Named}
-use Rattle.pn_ranges.proofs.Comparisons.{and_first, starts-front}
+use Rattle.pn_ranges.proofs.Comparisons.{and_first, end-comparator, starts-front}
 use Rattle.pn_ranges.proofs.Follow.{Bar, Closed, Compared, Dash, Dashed, Ended, Equal, Far, Follows, Gap, Gapped, Operand, Rest, RestOf, Signed}
 use Rattle.pn_ranges.proofs.Follow as w
 use Rattle.pn_ranges.proofs.FollowParts.{Small, at-byte, bar-closed, end-step}
@@ -173,9 +173,6 @@ dashed-forms : (t u : List ℕ) (n : Named) (b : ℕ) → IsEnd t n → is_space
 dashed-forms t _ n b i h (is s r y v m a p j c) =
     let same : (t ++ (b ∷ s ++ 45 ∷ (r ++ y))) ++ v ≡ t ++ b ∷ (s ++ 45 ∷ (r ++ (y ++ v))) = simp append_assoc in
     subst AreForms same (form-closed (t ++ (b ∷ s ++ 45 ∷ (r ++ y))) v (f.hyphen t (b ∷ s) r y n m i (record { spaces = rw (h, a) refl; some = h }) p j) c)
-
-end-comparator : (t : List ℕ) (n : Named) → IsEnd t n → IsComparator t x.Exact n
-end-comparator t n i = g.comparator [] [] t x.Exact n g.absent refl i refl
 
 ended-forms : (t u : List ℕ) (n : Named) → IsEnd t n → Follows first u → AreForms (t ++ u)
 ended-forms t u n i (w.closed _ _ c) = form-closed t u (f.comparators t (f.one t x.Exact n (end-comparator t n i))) c

@@ -13,7 +13,6 @@ use Rattle.pn_ranges.specs.Grammar.{AreComparators, AreGaps, AreSpaces, IsCompar
 use Rattle.pn_ranges.specs.Grammar as g
 use Rattle.pn_ranges.specs.Limits.{Limit}
 use Rattle.pn_ranges.specs.Places.{after, turn_of, first, later, start, closed, dash, gap, fault_comparator, first_fault}
-use Rattle.pn_ranges.specs.Overs.{HasOver}
 use Rattle.pn_ranges.specs.Reading.{ComparatorsAt, HyphenAt, LowerAt, RangeAt, SpacedAt, Stops, UpperAt}
 use Rattle.pn_ranges.specs.Unread.{ends_range}
 use Rattle.pn_ranges.specs.Table.{Named, all_fit, between, limits, or_any}
@@ -28,10 +27,6 @@ pub start-comparator : (text : List ℕ) → starts_with is_space text ≡ false
 start-comparator [] s e = cc e
 start-comparator (b ∷ rest) s e = rw (s, e) refl
 
-pub gap-closed : (h : Bool) (text : List ℕ) → starts_with is_space text ≡ false → ends_range text ≡ true → first_fault (gap h) text ≡ first_fault closed text
-gap-closed h [] s e = refl
-gap-closed h (b ∷ rest) s e = rw (s, e) refl
-
 pub start-closed : (text : List ℕ) → starts_with is_space text ≡ false → ends_range text ≡ true → first_fault start text ≡ first_fault closed text
 start-closed [] s e = refl
 start-closed (b ∷ rest) s e = rw (s, e) refl
@@ -45,37 +40,26 @@ later-turn true text = refl
 later-turn false text = refl
 
 -- faults that are passed on
-pub stops-fault : (none : Type 0) (f : Option Stop) (text : List ℕ) (s : Stop) → f ≡ Some s → Stops none f text s
-stops-fault none f text stop.Memory h = tt
-stops-fault none f text (stop.Byte n) h = h
-stops-fault none f text (stop.Number n) h = inl h
+pub stops-fault : (Over : ℕ → Type 0) (none : Type 0) (f : Option Stop) (s : Stop) → f ≡ Some s → none → Stops Over none f s
+stops-fault Over none f stop.Memory h n = tt
+stops-fault Over none f (stop.Byte k) h n = (h, n)
+stops-fault Over none f (stop.Number k) h n = inl (h, n)
 
-over-wider : (pre text whole : List ℕ) (n : ℕ) → whole ≡ pre ++ text → HasOver text n → HasOver whole n
-over-wider pre text whole n w h = record {
-  front = pre ++ h.front;
-  over = h.over;
-  rest = h.rest;
-  split = w ∙ ap (λ y. pre ++ y) h.split ∙ sym (append_assoc pre h.front (h.over ++ h.rest));
-  from = h.from;
-  is = h.is;
-  place = h.place;
-}
+pub stops-from : {Over Inner : ℕ → Type 0} {none inner : Type 0} (f g : Option Stop) (s : Stop) → f ≡ g → (inner → none) → ((n : ℕ) → Inner n → Over n) → Stops Inner inner g s
+    → Stops Over none f s
+stops-from f g stop.Memory e up over h = tt
+stops-from f g (stop.Byte n) e up over h = (e ∙ h.0, up h.1)
+stops-from f g (stop.Number n) e up over h = elim h [ inl x ↦ inl (e ∙ x.0, up x.1) | inr o ↦ inr (over n o) ]
 
-pub stops-from : {inner none : Type 0} (f f' : Option Stop) (pre text whole : List ℕ) (s : Stop) → f ≡ f' → whole ≡ pre ++ text → (inner → none) → Stops inner f' text s
-    → Stops none f whole s
-stops-from f f' pre text whole stop.Memory e w up h = tt
-stops-from f f' pre text whole (stop.Byte n) e w up h = e ∙ h
-stops-from f f' pre text whole (stop.Number n) e w up h = elim h [ inl x ↦ inl (e ∙ x) | inr x ↦ inr (over-wider pre text whole n w x.0, up x.1) ]
+pub exit_by : {T : Type 0} (Over : ℕ → Type 0) (none : Type 0) (f : Option Stop) (r : Result T Stop) (x : Stop) → IsErrAnd r (λ y. y ≡ x) → Stops Over none f x → IfErr r (Stops Over none f)
+exit_by Over none f (Ok v) x h stops = tt
+exit_by Over none f (Err s) x h stops = subst (Stops Over none f) (sym h) stops
 
-pub exit_by : {T : Type 0} (none : Type 0) (f : Option Stop) (text : List ℕ) (r : Result T Stop) (x : Stop) → IsErrAnd r (λ y. y ≡ x) → Stops none f text x → IfErr r (Stops none f text)
-exit_by none f text (Ok v) x h stops = tt
-exit_by none f text (Err s) x h stops = subst (Stops none f text) (sym h) stops
-
-pub over-stops : {none : Type 0} (f : Option Stop) (text : List ℕ) (ls : List Limit) (k : ℕ) (p : Partial) (s : Stop) → (all_fit ls ≡ false → HasOver text (left_at k p))
-    → (all_fit ls ≡ false → none) → (s ≡ stop.Memory) ⊎ IsRaised ls k p s → Stops none f text s
-over-stops {none = none} f text ls k p s over unread h = elim h [
-  | inl m ↦ subst (Stops none f text) (sym m) tt
-  | inr r ↦ subst (Stops none f text) (sym r.0) (inr (over r.1, unread r.1))
+pub over-stops : (Over : ℕ → Type 0) (none : Type 0) (f : Option Stop) (ls : List Limit) (k : ℕ) (p : Partial) (s : Stop) → (all_fit ls ≡ false → Over (left_at k p))
+    → (s ≡ stop.Memory) ⊎ IsRaised ls k p s → Stops Over none f s
+over-stops Over none f ls k p s over h = elim h [
+  | inl m ↦ subst (Stops Over none f) (sym m) tt
+  | inr r ↦ subst (Stops Over none f) (sym r.0) (inr (over r.1))
 ]
 
 -- one comparator more
@@ -145,8 +129,8 @@ pub with-first : (text mid rest : List ℕ) (k : ℕ) (old new : List Limit) →
     → ((whole : List ℕ) (m : ℕ) → ComparatorsAt whole m old mid → ComparatorsAt whole (m + k) new rest) → ComparatorsAt text (k + 1) new rest
 with-first text mid rest k old new a more = subst (λ z. ComparatorsAt text z new rest) (add_comm 1 k) (more text 1 a)
 
-pub memory-stops : (none : Type 0) (f : Option Stop) (text : List ℕ) (s : Stop) → s ≡ stop.Memory → Stops none f text s
-memory-stops none f text s h = subst (Stops none f text) (sym h) tt
+pub memory-stops : (Over : ℕ → Type 0) (none : Type 0) (f : Option Stop) (s : Stop) → s ≡ stop.Memory → Stops Over none f s
+memory-stops Over none f s h = subst (Stops Over none f) (sym h) tt
 
 -- behind a first comparator
 pub start-dash : (plain : Bool) (text rest over : List ℕ) → first_fault start text ≡ first_fault (after (turn_of plain first)) rest → plain ≡ true → rest ≡ 45 ∷ over
@@ -159,12 +143,6 @@ pub gap-same : (plain : Bool) (rest : List ℕ) → starts_with is_space rest �
 gap-same false rest s d = refl
 gap-same true [] s d = refl
 gap-same true (b ∷ rest) s d = rw (s, d) refl
-
-pub lower-before : (text rest over : List ℕ) (n : Named) (a : LowerAt text n rest) → rest ≡ 45 ∷ over → text ≡ (a.front ++ (a.spaces ++ 45 ∷ [])) ++ over
-lower-before text rest over n a r = a.split ∙ ap (λ y. a.front ++ (a.spaces ++ y)) r ∙ simp append_assoc
-
-pub spaced-before : (text rest : List ℕ) (x : Sign) (n : Named) (a : SpacedAt text x n rest) → text ≡ (a.front ++ a.spaces) ++ rest
-spaced-before text rest x n a = a.split ∙ sym (append_assoc a.front a.spaces rest)
 
 some-length : (s : List ℕ) → starts_with is_space s ≡ true → 0 < length s
 some-length [] h = cc h

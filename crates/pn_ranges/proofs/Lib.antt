@@ -19,6 +19,12 @@ pub mod FollowParts
 pub mod FollowRanges
 pub mod Stopped
 pub mod Same
+pub mod Faults
+pub mod Closings
+pub mod Inside
+pub mod Reached
 pub mod Unreads
 pub mod Bars
 pub mod Counts
+pub mod Firsts
+pub mod Refused

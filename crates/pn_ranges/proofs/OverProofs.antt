@@ -1,18 +1,21 @@
 -- Numbers that a limit raises to 2^64: where they stand.
-use Rattle.std.proofs.Common.{◌≡◌, ◌≤◌, ◌<◌, ℕ, zero, suc, Bool, true, false, List, [], ◌∷◌, ◌++◌, length, Option, Some, None, refl, sym, ap, subst, ◌∙◌, arith, inl, inr, append_assoc, length-append}
-use Rattle.std.specs.Prelude.{◌==◌, ◌&&◌, if◌then◌else◌}
+use Rattle.std.proofs.Common.{◌≡◌, ◌≤◌, ◌<◌, ℕ, zero, suc, Bool, true, false, List, [], ◌∷◌, ◌++◌, length, Option, Some, None, refl, sym, ap, subst, ◌∙◌, arith, inl, inr, append_assoc}
+use Rattle.std.specs.Prelude.{◌==◌, ◌&&◌, not, if◌then◌else◌}
 use Rattle.std.specs.List.{list_all}
 use Rattle.std.proofs.lemmas.Bool.{cases_Bool}
+use Rattle.std.proofs.lemmas.Bool.Decides.{nat_tests}
 use Rattle.pn_ranges.specs.declared.comparator.Sign.{Sign}
 use Rattle.pn_ranges.specs.declared.comparator.Sign.TheVariants as x
-use Rattle.pn_ranges.specs.Bytes.{is_lead, is_space, behind, front_of, starts_with}
-use Rattle.pn_ranges.specs.Grammar.{Begins, IsComparator, IsEnd, IsPart, IsPartial, IsSign, IsTail, may_join}
+use Rattle.pn_ranges.specs.Bytes.{is_body, is_lead, is_open, is_space, behind, front_of, starts_with}
+use Rattle.pn_ranges.specs.Grammar.{Begins, IsPart, IsPartial, IsSign, IsTail, may_join}
 use Rattle.pn_ranges.specs.Grammar as g
-use Rattle.pn_ranges.specs.Overs.{HasOver, IsOver, PartFrom, PartsAt, PlacedAt, parts_of}
+use Rattle.pn_ranges.specs.Overs.{OverAt, OverUpper, PartsAt, PlacedAt, parts_of}
 use Rattle.pn_ranges.specs.Overs as o
 use Rattle.pn_ranges.specs.Table.{Named, all_fit, any, full, limits, major, minor, named, raised, upper_limits, upper_raised}
 use Rattle.pn_ranges.proofs.Comparisons.{and_first, starts-front}
 use Rattle.pn_ranges.proofs.Fronts.{front-all, front-behind}
+use Rattle.pn_ranges.proofs.Spaced.{gap-front}
+use Rattle.pn_ranges.proofs.Words.{and_left, and_right}
 
 -- how many parts are named
 one-named : (a : Option ℕ) (p : List ℕ) → parts_of (named a None None p) ≤ 1
@@ -136,56 +139,79 @@ upper-named (major a) h = omega arith
 upper-named (minor a b) h = omega arith
 upper-named (full a b c pre) h = omega arith
 
+-- nothing of a version stands before its first part
+abbrev pub shut : ℕ → Bool
+shut b = not (is_open b)
+
+lead-shut : (b : ℕ) → is_lead b ≡ true → shut b ≡ true
+lead-shut b h = grind (arith, nat_tests)
+
+pub space-shut : (b : ℕ) → is_space b ≡ true → shut b ≡ true
+space-shut b h = grind (arith, nat_tests)
+
+leads-shut : (t : List ℕ) → list_all is_lead t ≡ true → list_all shut t ≡ true
+leads-shut [] h = refl
+leads-shut (b ∷ t) h = rw (lead-shut b (and_left (is_lead b) (list_all is_lead t) h)) (leads-shut t (and_right (is_lead b) (list_all is_lead t) h))
+
+pub spaces-shut : (t : List ℕ) → list_all is_space t ≡ true → list_all shut t ≡ true
+spaces-shut [] h = refl
+spaces-shut (b ∷ t) h = rw (space-shut b (and_left (is_space b) (list_all is_space t) h)) (spaces-shut t (and_right (is_space b) (list_all is_space t) h))
+
+sign-shut : (t : List ℕ) (s : Sign) → IsSign t s → list_all shut t ≡ true
+sign-shut _ _ g.absent = refl
+sign-shut _ _ g.equal = refl
+sign-shut _ _ g.less = refl
+sign-shut _ _ g.at_most = refl
+sign-shut _ _ g.greater = refl
+sign-shut _ _ g.at_least = refl
+sign-shut _ _ g.tilde = refl
+sign-shut _ _ g.tilde_greater = refl
+sign-shut _ _ g.caret = refl
+
 pub comparator-over : (text mid after rest : List ℕ) (s : Sign) (n : Named) (left : ℕ → ℕ) → Begins IsSign text s mid → (may_join s && starts_with (λ b. b == 61) mid) ≡ false
-    → after ≡ behind is_space mid → PartsAt n left after rest → all_fit (limits s n) ≡ false → HasOver text (left (raised s n))
-comparator-over text mid after rest s n left f longest a p fit =
+    → after ≡ behind is_space mid → PartsAt n left after rest → all_fit (limits s n) ≡ false → starts_with is_body rest ≡ false → OverAt text rest (left (raised s n))
+comparator-over text mid after rest s n left f longest a p fit ends =
     let spaces = front_of is_space mid in
     let whole : mid ≡ (spaces ++ (p.leads ++ p.partial)) ++ rest = front-behind is_space mid ∙ ap (λ y. spaces ++ y) (sym a ∙ p.split) ∙ simp append_assoc in
     let at = p.places (raised s n) (raised-named s n fit) in
     let alone = and_first (may_join s) (starts_with (λ b. b == 61) mid) (starts_with (λ b. b == 61) (spaces ++ (p.leads ++ p.partial))) longest
     (λ none. starts-front (λ b. b == 61) (spaces ++ (p.leads ++ p.partial)) rest (subst (λ y. starts_with (λ b. b == 61) y ≡ false) whole none)) in
     record {
-      front = [];
-      over = f.front ++ (spaces ++ (p.leads ++ p.partial));
-      rest = rest;
+      front = f.front ++ (spaces ++ (p.leads ++ p.partial));
       from = at.from;
+      sign = s;
+      name = n;
       split = f.split ∙ ap (λ y. f.front ++ y) whole ∙ sym (append_assoc f.front (spaces ++ (p.leads ++ p.partial)) rest);
-      is = o.comparator _ (f.front ++ (spaces ++ p.leads)) p.partial at.from s n
-          (g.comparator f.front spaces (p.leads ++ p.partial) s n f.spelled (front-all is_space mid) (g.end p.leads p.partial n p.lead p.is) alone)
-          fit (simp append_assoc) p.is at.is;
+      read = g.comparator f.front spaces (p.leads ++ p.partial) s n f.spelled (front-all is_space mid) (g.end p.leads p.partial n p.lead p.is) alone;
+      ends = ends;
+      large = fit;
+      part = record {
+        before = f.front ++ (spaces ++ p.leads);
+        partial = p.partial;
+        split = simp append_assoc;
+        outside = all-append shut f.front (spaces ++ p.leads) (sign-shut f.front s f.spelled)
+            (all-append shut spaces p.leads (spaces-shut spaces (front-all is_space mid)) (leads-shut p.leads p.lead));
+        is = p.is;
+        part = at.is;
+      };
       place = at.place;
     }
 
-pub upper-over : (text start rest : List ℕ) (n : Named) (left : ℕ → ℕ) → start ≡ behind is_space text → PartsAt n left start rest → all_fit (upper_limits n) ≡ false
-    → HasOver text (left (upper_raised n))
-upper-over text start rest n left h p fit =
+pub upper-over : (text start rest : List ℕ) (n : Named) (left : ℕ → ℕ) → starts_with is_space text ≡ true → start ≡ behind is_space text → PartsAt n left start rest
+    → starts_with is_body rest ≡ false → all_fit (upper_limits n) ≡ false → OverUpper text (left (upper_raised n))
+upper-over text start rest n left s h p ends fit =
     let at = p.places (upper_raised n) (upper-named n fit) in
     record {
-      front = front_of is_space text;
-      over = p.leads ++ p.partial;
+      gaps = front_of is_space text;
+      front = p.leads ++ p.partial;
       rest = rest;
       from = at.from;
+      name = n;
       split = front-behind is_space text ∙ ap (λ y. front_of is_space text ++ y) (sym h ∙ p.split ∙ sym (append_assoc p.leads p.partial rest));
-      is = o.upper (p.leads ++ p.partial) p.leads p.partial at.from n (g.end p.leads p.partial n p.lead p.is) fit refl p.is at.is;
+      apart = gap-front text s;
+      read = g.end p.leads p.partial n p.lead p.is;
+      ends = ends;
+      large = fit;
+      part = record { before = p.leads; partial = p.partial; split = refl; outside = leads-shut p.leads p.lead; is = p.is; part = at.is };
       place = at.place;
     }
-
--- the place lies in the text
-from-short : (t : List ℕ) (k : ℕ) (from : List ℕ) → PartFrom t k from → length from ≤ length t
-from-short _ _ _ (o.here t) = omega arith
-from-short _ _ _ (o.behind t u from a k i p) = let l = length-append t (46 ∷ u) in let h = from-short u k from p in omega arith
-
-suffix-short : (t before partial from : List ℕ) → t ≡ before ++ partial → length from ≤ length partial → length from ≤ length t
-suffix-short t before partial from e h = let l = ap (λ (z : List ℕ). length z) e ∙ length-append before partial in omega arith
-
-over-short : (t from : List ℕ) → IsOver t from → length from ≤ length t
-over-short _ _ (o.comparator t before partial from s n c fit e i p) = suffix-short t before partial from e (from-short partial _ from p)
-over-short _ _ (o.upper t before partial from n c fit e i p) = suffix-short t before partial from e (from-short partial _ from p)
-
-pub over-within : (text : List ℕ) (n : ℕ) → HasOver text n → n ≤ length text
-over-within text n h =
-    let a = ap (λ (z : List ℕ). length z) h.split ∙ length-append h.front (h.over ++ h.rest) in
-    let b = length-append h.over h.rest in
-    let c = h.place ∙ length-append h.from h.rest in
-    let d = over-short h.over h.from h.is in
-    omega arith

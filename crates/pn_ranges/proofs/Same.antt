@@ -1,32 +1,29 @@
 -- A comparator is read in one way.
 use Rattle.std.proofs.Common.{◌≡◌, ℕ, Bool, true, false, List, [], ◌∷◌, ◌++◌, Option, Some, None, refl, sym, ap, ◌∙◌, arith, inl, inr, append_assoc, append-nil}
-use Rattle.std.specs.Prelude.{◌==◌, ◌||◌, not, if◌then◌else◌}
+use Rattle.std.specs.Prelude.{◌==◌, ◌||◌, if◌then◌else◌}
 use Rattle.std.specs.List.{list_all}
 use Rattle.std.proofs.lemmas.Bool.{cases_Bool, eqb-true}
 use Rattle.std.proofs.lemmas.Bool.Decides.{nat_tests}
 use Rattle.semver.specs.Grammar.{is_build_identifier, is_identifier_byte, is_pre_identifier}
 use Rattle.pn_ranges.specs.declared.comparator.Sign.{Sign}
 use Rattle.pn_ranges.specs.declared.comparator.Sign.TheVariants as x
-use Rattle.pn_ranges.specs.Bytes.{is_space, is_lead, is_wild, is_digit, front_of, behind, starts_with, number_at, number_from}
+use Rattle.pn_ranges.specs.Bytes.{is_space, is_lead, is_wild, is_digit, is_body, is_open, front_of, behind, starts_with, number_at, number_from}
 use Rattle.pn_ranges.specs.Grammar.{AreIdentifiers, AreSpaces, IsBuild, IsComparator, IsEnd, IsNumber, IsPart, IsPartial, IsSign, IsTail}
 use Rattle.pn_ranges.specs.Grammar as g
+use Rattle.pn_ranges.specs.Reading.{joined, signed, tilded}
 use Rattle.pn_ranges.specs.Table.{Named, any, full, major, minor, named, limits, upper_limits, all_fit}
-use Rattle.pn_ranges.proofs.Accepts.{is_stop, number-of}
+use Rattle.pn_ranges.proofs.Accepts.{number-of}
 use Rattle.pn_ranges.proofs.Fronts.{behind-append, behind-same, behind-stops}
 use Rattle.pn_ranges.proofs.OverProofs.{all-append}
 use Rattle.pn_ranges.proofs.Words.{and_left, and_right}
 
--- the bytes of a version
-abbrev pub is_body : ℕ → Bool
-is_body b = not (is_stop b)
-
-digit-body : (b : ℕ) → is_digit b ≡ true → is_body b ≡ true
+pub digit-body : (b : ℕ) → is_digit b ≡ true → is_body b ≡ true
 digit-body b h = grind (arith, nat_tests)
 
 wild-body : (b : ℕ) → is_wild b ≡ true → is_body b ≡ true
 wild-body b h = grind (arith, nat_tests)
 
-lead-body : (b : ℕ) → is_lead b ≡ true → is_body b ≡ true
+pub lead-body : (b : ℕ) → is_lead b ≡ true → is_body b ≡ true
 lead-body b h = grind (arith, nat_tests)
 
 word-body : (b : ℕ) → is_identifier_byte b ≡ true → is_body b ≡ true
@@ -36,32 +33,32 @@ pub all-weaken : (f h : ℕ → Bool) → ((b : ℕ) → f b ≡ true → h b �
 all-weaken f h more [] all = refl
 all-weaken f h more (b ∷ t) all = rw (more b (and_left (f b) (list_all f t) all)) (all-weaken f h more t (and_right (f b) (list_all f t) all))
 
-part-body : (t : List ℕ) (a : Option ℕ) → IsPart t a → list_all is_body t ≡ true
+pub part-body : (t : List ℕ) (a : Option ℕ) → IsPart t a → list_all is_body t ≡ true
 part-body _ _ (g.wild b w) = all-weaken is_wild is_body wild-body (b ∷ []) (rw w refl)
 part-body _ _ (g.number t n i low) = number t n i where
   number : (t : List ℕ) (n : ℕ) → IsNumber t n → list_all is_body t ≡ true
   number _ _ g.zero = refl
   number _ _ (g.counted b bs d z all) = all-weaken is_digit is_body digit-body (b ∷ bs) (rw (d, all) refl)
 
-ids-body : (right : List ℕ → Bool) → ((y : List ℕ) → right y ≡ true → list_all is_body y ≡ true) → (t : List ℕ) → AreIdentifiers right t → list_all is_body t ≡ true
+pub ids-body : (right : List ℕ → Bool) → ((y : List ℕ) → right y ≡ true → list_all is_body y ≡ true) → (t : List ℕ) → AreIdentifiers right t → list_all is_body t ≡ true
 ids-body right f _ (g.one y h) = f y h
 ids-body right f _ (g.more y t h a) = all-append is_body y (46 ∷ t) (f y h) (ids-body right f t a)
 
-build-id : (y : List ℕ) → is_build_identifier y ≡ true → list_all is_body y ≡ true
+pub build-id : (y : List ℕ) → is_build_identifier y ≡ true → list_all is_body y ≡ true
 build-id y h = all-weaken is_identifier_byte is_body word-body y (and_right _ (list_all is_identifier_byte y) h)
 
-pre-id : (y : List ℕ) → is_pre_identifier y ≡ true → list_all is_body y ≡ true
+pub pre-id : (y : List ℕ) → is_pre_identifier y ≡ true → list_all is_body y ≡ true
 pre-id y h = build-id y (and_left (is_build_identifier y) _ h)
 
-build-body : (t : List ℕ) → IsBuild t → list_all is_body t ≡ true
+pub build-body : (t : List ℕ) → IsBuild t → list_all is_body t ≡ true
 build-body _ g.absent = refl
 build-body _ (g.build u a) = ids-body is_build_identifier build-id u a
 
-tail-body : (s p : List ℕ) → IsTail s p → list_all is_body s ≡ true
+pub tail-body : (s p : List ℕ) → IsTail s p → list_all is_body s ≡ true
 tail-body _ _ (g.bare t b) = build-body t b
 tail-body _ _ (g.pre p t a b) = all-append is_body p t (ids-body is_pre_identifier pre-id p a) (build-body t b)
 
-partial-body : (t : List ℕ) (n : Named) → IsPartial t n → list_all is_body t ≡ true
+pub partial-body : (t : List ℕ) (n : Named) → IsPartial t n → list_all is_body t ≡ true
 partial-body _ _ (g.one t a i) = part-body t a i
 partial-body _ _ (g.two t u a b i j) = all-append is_body t (46 ∷ u) (part-body t a i) (part-body u b j)
 partial-body _ _ (g.three t u w s p a b c i j k l) =
@@ -159,9 +156,6 @@ partial-names _ _ (g.three t u w s p a b c i j k l) =
     ∙ ap (λ z. named a b z []) (part-value w c k s (tail-digit s p l)).0 ∙ sym (bare-named a b c p)
 
 -- what an end begins with
-abbrev pub is_open : ℕ → Bool
-is_open b = is_digit b || is_wild b
-
 abbrev pub is_head : ℕ → Bool
 is_head b = is_lead b || is_open b
 
@@ -190,7 +184,7 @@ part-first _ _ (g.number t n i low) = number t n i where
   number _ _ g.zero = record { byte = 48; rest = []; split = refl; is = refl }
   number _ _ (g.counted b bs d z all) = record { byte = b; rest = bs; split = refl; is = digit-open b d }
 
-partial-first : (t : List ℕ) (n : Named) → IsPartial t n → First is_open t
+pub partial-first : (t : List ℕ) (n : Named) → IsPartial t n → First is_open t
 partial-first _ _ (g.one t a i) = part-first t a i
 partial-first _ _ (g.two t u a b i j) = first-more is_open t (46 ∷ u) (part-first t a i)
 partial-first _ _ (g.three t u w s p a b c i j k l) = first-more is_open t _ (part-first t a i)
@@ -198,7 +192,7 @@ partial-first _ _ (g.three t u w s p a b c i j k l) = first-more is_open t _ (pa
 open-head : (b : ℕ) → is_open b ≡ true → is_head b ≡ true
 open-head b h = grind (arith, nat_tests)
 
-lead-head : (b : ℕ) → is_lead b ≡ true → is_head b ≡ true
+pub lead-head : (b : ℕ) → is_lead b ≡ true → is_head b ≡ true
 lead-head b h = grind (arith, nat_tests)
 
 pub end-first : (t : List ℕ) (n : Named) → IsEnd t n → First is_head t
@@ -237,21 +231,7 @@ upper-bare (major a) = refl
 upper-bare (minor a b) = refl
 upper-bare (full a b c p) = refl
 
--- the operator at the front, and what is behind it
-abbrev joined : Sign → Sign → List ℕ → Sign × List ℕ
-joined s l [] = (s, [])
-joined s l (b ∷ t) = if b == 61 then (l, t) else (s, b ∷ t)
-
-abbrev tilded : List ℕ → List ℕ
-tilded [] = []
-tilded (b ∷ t) = if b == 62 then t else b ∷ t
-
-abbrev signed : List ℕ → Sign × List ℕ
-signed [] = (x.Exact, [])
-signed (b ∷ t) =
-    if b == 60 then joined x.Less x.AtMost t else if b == 62 then joined x.Greater x.AtLeast t else if b == 126 then (x.Tilde, tilded t)
-    else if b == 94 then (x.Caret, t) else if b == 61 then (x.Exact, t) else (x.Exact, b ∷ t)
-
+-- the operator at the front
 joined-alone : (s l : Sign) (t : List ℕ) → starts_with (λ b. b == 61) t ≡ false → joined s l t ≡ (s, t)
 joined-alone s l [] h = refl
 joined-alone s l (b ∷ t) h = rw h refl
@@ -262,10 +242,10 @@ tilded-alone (b ∷ t) h = rw h refl
 
 -- how a text begins with a comparator
 pub record Shape (text : List ℕ) (s : Sign) (n : Named) (r : List ℕ) : Type 0 where
-  end : List ℕ
-  is : IsEnd end n
-  sign : (signed (behind is_space text)).0 ≡ s
-  split : behind is_space (signed (behind is_space text)).1 ≡ end ++ r
+  pub end : List ℕ
+  pub is : IsEnd end n
+  pub sign : (signed (behind is_space text)).0 ≡ s
+  pub split : behind is_space (signed (behind is_space text)).1 ≡ end ++ r
 
 head-space : (b : ℕ) → is_head b ≡ true → is_space b ≡ false
 head-space b h = grind (arith, nat_tests)
@@ -381,9 +361,6 @@ is_mark b = (b == 45) || (b == 124)
 
 head-mark : (b : ℕ) → is_head b ≡ true → is_mark b ≡ false
 head-mark b h = grind (arith, nat_tests)
-
-pub end-mark : (t r : List ℕ) (n : Named) → IsEnd t n → starts_with is_mark (behind is_space (t ++ r)) ≡ false
-end-mark t r n i = ap (starts_with is_mark) (head-same t r n i) ∙ first-not is_head is_mark (t ++ r) (first-more is_head t r (end-first t n i)) head-mark
 
 pub comparator-mark : (t : List ℕ) (s : Sign) (n : Named) → IsComparator t s n → (r : List ℕ) → starts_with is_mark (behind is_space (t ++ r)) ≡ false
 comparator-mark _ s n (g.comparator _ p t _ _ g.absent a i j) r =

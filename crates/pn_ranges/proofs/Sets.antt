@@ -1,6 +1,6 @@
 -- Sets of ranges.
-use Rattle.std.proofs.Common.{◌≡◌, ◌≤◌, ◌+◌, ◌-◌, ℕ, suc, Bool, true, false, List, [], ◌∷◌, ◌++◌, length, map, Some, None, refl, sym, ap, subst, ◌∙◌, arith, inl, inr, append_assoc, append-nil, zero-add}
-use Rattle.std.specs.Prelude.{◌==◌, ◌||◌, if◌then◌else◌}
+use Rattle.std.proofs.Common.{◌≡◌, ◌≤◌, ◌+◌, ◌-◌, ℕ, Bool, true, false, List, [], ◌∷◌, ◌++◌, length, map, Some, None, refl, sym, ap, subst, ◌∙◌, arith, inl, inr, append_assoc, append-nil, zero-add}
+use Rattle.std.specs.Prelude.{◌==◌, ◌||◌}
 use Rattle.std.specs.List.{list_any}
 use Rattle.pn_ranges.specs.declared.fault.Stop.{Stop}
 use Rattle.pn_ranges.specs.declared.fault.Stop.TheVariants as stop
@@ -8,12 +8,13 @@ use Rattle.pn_ranges.specs.Bytes.{is_space, behind, front_of, starts_with}
 use Rattle.pn_ranges.specs.Grammar.{AreRanges}
 use Rattle.pn_ranges.specs.Grammar as g
 use Rattle.pn_ranges.specs.Limits.{Limit}
-use Rattle.pn_ranges.specs.Places.{State, bar, closed, start, step, may_end, is_large, on_step, first_fault}
+use Rattle.pn_ranges.specs.Places.{bar, closed, start, first_fault}
 use Rattle.pn_ranges.specs.Reading.{RangeAt, RangesBefore, SpacedRange, Stops}
 use Rattle.pn_ranges.specs.Unread.{ends_range}
 use Rattle.pn_ranges.specs.Overs.{HasOver}
-use Rattle.pn_ranges.proofs.OverProofs.{over-within}
-use Rattle.pn_ranges.specs.Refusals.{IsLeftOf, RangeRefused, refusal_of}
+use Rattle.pn_ranges.specs.Refusals.{IsLeftOf, NoOver, RangeRefused, refusal_of}
+use Rattle.pn_ranges.proofs.Faults.{fault-left}
+use Rattle.pn_ranges.proofs.Reached.{over-within}
 use Rattle.pn_ranges.proofs.Fronts.{front-behind, front-all, behind-le}
 use Rattle.pn_ranges.proofs.Steps.{run}
 
@@ -91,53 +92,26 @@ pub bar-stop : (text : List ℕ) → starts_with (λ b. b == 124) text ≡ false
 bar-stop [] h = refl
 bar-stop (b ∷ rest) h = rw h refl
 
--- a fault lies in its text
-some-left : (n m : ℕ) (s : Stop) → n ≤ m → Some (stop.Byte n) ≡ Some s → IsLeftOf m s
-some-left n m (stop.Byte k) l h = let e : n ≡ k = cc in subst (λ z. z ≤ m) e l
-some-left n m (stop.Number k) l h = cc h
-some-left n m stop.Memory l h = tt
-
-some-number : (n m : ℕ) (s : Stop) → n ≤ m → Some (stop.Number n) ≡ Some s → IsLeftOf m s
-some-number n m (stop.Byte k) l h = cc h
-some-number n m (stop.Number k) l h = let e : n ≡ k = cc in subst (λ z. z ≤ m) e l
-some-number n m stop.Memory l h = tt
-
-left-more : (n : ℕ) (s : Stop) → IsLeftOf n s → IsLeftOf (suc n) s
-left-more n (stop.Byte k) h = omega arith
-left-more n (stop.Number k) h = omega arith
-left-more n stop.Memory h = tt
-
-pub fault-left : (text : List ℕ) (q : State) (s : Stop) → first_fault q text ≡ Some s → IsLeftOf (length text) s
-fault-left [] q s h = elim (may_end q) as (λ v. (if v then None else Some (stop.Byte 0)) ≡ Some s → IsLeftOf 0 s) [
-  | true ↦ λ e. cc e
-  | false ↦ λ e. some-left 0 0 s (omega arith) e
-] h
-fault-left (b ∷ rest) q s h = elim (step q b) as (λ o. on_step o (λ n. if is_large q n (b ∷ rest) then Some (stop.Number (length (b ∷ rest))) else first_fault n rest) (Some (stop.Byte (length (b ∷ rest)))) ≡ Some s
-    → IsLeftOf (length (b ∷ rest)) s) [
-      | None ↦ λ e. some-left (length (b ∷ rest)) (length (b ∷ rest)) s (omega arith) e
-      | Some n ↦ λ e. elim (is_large q n (b ∷ rest)) as (λ v. (if v then Some (stop.Number (length (b ∷ rest))) else first_fault n rest) ≡ Some s → IsLeftOf (length (b ∷ rest)) s) [
-        | true ↦ λ e. some-number (length (b ∷ rest)) (length (b ∷ rest)) s (omega arith) e
-        | false ↦ λ e. left-more (length rest) s (fault-left rest n s e)
-      ] e
-    ] h
-
-pub stops-left : (none : Type 0) (text : List ℕ) (s : Stop) → Stops none (first_fault start text) text s → IsLeftOf (length text) s
-stops-left none text (stop.Byte n) h = fault-left text start (stop.Byte n) h
-stops-left none text (stop.Number n) h = elim h [ inl f ↦ fault-left text start (stop.Number n) f | inr o ↦ over-within text n o.0 ]
-stops-left none text stop.Memory h = tt
+pub stops-left : (text : List ℕ) (s : Stop) → Stops (HasOver text) (NoOver text) (first_fault start text) s → IsLeftOf (length text) s
+stops-left text (stop.Byte n) h = fault-left text start (stop.Byte n) h.0
+stops-left text (stop.Number n) h = elim h [ inl f ↦ fault-left text start (stop.Number n) f.0 | inr o ↦ over-within text n o ]
+stops-left text stop.Memory h = tt
 
 back : (n m : ℕ) → n ≤ m → m - (m - n) ≡ n
 back n m h = omega arith
 
-pub refused-from : (none : Type 0) (text : List ℕ) (s : Stop) → Stops none (first_fault start text) text s → RangeRefused text (refusal_of (length text) s)
-refused-from none text (stop.Byte n) h =
-    let l : n ≤ length text = fault-left text start (stop.Byte n) h in
-    record { within = omega arith; first = h ∙ ap (λ z. Some (stop.Byte z)) (sym (back n (length text) l)) }
-refused-from none text (stop.Number n) h =
-    let l : n ≤ length text = stops-left none text (stop.Number n) h in
+pub refused-from : (text : List ℕ) (s : Stop) → Stops (HasOver text) (NoOver text) (first_fault start text) s → RangeRefused text (refusal_of (length text) s)
+refused-from text (stop.Byte n) h =
+    let l : n ≤ length text = fault-left text start (stop.Byte n) h.0 in
+    record { byte = record { within = omega arith; first = h.0 ∙ ap (λ z. Some (stop.Byte z)) (sym (back n (length text) l)) }; fit = h.1 }
+refused-from text (stop.Number n) h =
+    let l : n ≤ length text = stops-left text (stop.Number n) h in
     let e = sym (back n (length text) l) in
-    record { within = omega arith; large = elim h [ inl f ↦ inl (f ∙ ap (λ z. Some (stop.Number z)) e) | inr o ↦ inr (subst (λ z. HasOver text z) e o.0) ] }
-refused-from none text stop.Memory h = tt
+    elim h [
+      | inl f ↦ inl (record { within = omega arith; first = f.0 ∙ ap (λ z. Some (stop.Number z)) e }, f.1)
+      | inr o ↦ inr (record { within = omega arith; raised = subst (λ z. HasOver text z) e o })
+    ]
+refused-from text stop.Memory h = tt
 
 pub any-map : {A B : Type 0} (f : B → Bool) (m : A → B) (xs : List A) → list_any f (map m xs) ≡ list_any (λ x. f (m x)) xs
 any-map f m [] = refl

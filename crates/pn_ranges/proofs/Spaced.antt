@@ -79,7 +79,7 @@ lower-read text mid rest n f r h = record {
   apart = apart-front mid rest r h;
 }
 
-gap-front : (t : List ℕ) → starts_with is_space t ≡ true → AreGaps (front_of is_space t)
+pub gap-front : (t : List ℕ) → starts_with is_space t ≡ true → AreGaps (front_of is_space t)
 gap-front [] h = cc h
 gap-front (b ∷ t) h = record { spaces = front-all is_space (b ∷ t); some = rw h h }
 

@@ -64,9 +64,6 @@ pub digits-whole : (e : Turn) (k : ℕ) (text : List ℕ) → starts_with is_dig
 digits-whole e k [] h = refl
 digits-whole e k (b ∷ rest) h = rw h (on-whole e k b _ _ _ (λ s d. rw d refl))
 
-no_digits : (s : State) (x : Bool) → is_digits s ≡ false → (is_digits s && x) ≡ false
-no_digits s x h = rw h refl
-
 -- behind a whole version nothing but spaces, `|` or the end comes
 pub after-same : (s : State) (e : Turn) (b : ℕ) (rest : List ℕ)
     → on_step (after_step e b) (λ n. if is_large s n (b ∷ rest) then Some (Number (length (b ∷ rest))) else first_fault n rest) (Some (Byte (length (b ∷ rest))))

@@ -12,9 +12,8 @@ use Rattle.pn_ranges.specs.Limits.{Limit}
 use Rattle.pn_ranges.specs.PlaceLaw.{IsLongAt, StopsAt, PlaceLaw}
 use Rattle.pn_ranges.specs.Places.{State, Turn, step, may_end, is_digits, is_large, on_step, first_fault}
 use Rattle.pn_ranges.specs.Places as p
-use Rattle.pn_ranges.specs.Refusals.{HasBadByte, HasLargeNumber}
-use Rattle.pn_ranges.specs.Overs.{HasOver}
-use Rattle.std.specs.Prelude.{nat_le, not, ◌&&◌, ◌⊎◌}
+use Rattle.pn_ranges.specs.Refusals.{StopsByte, StopsNumber}
+use Rattle.std.specs.Prelude.{nat_le, not, ◌&&◌}
 use Rattle.std.proofs.Common.{◌^◌, ◌*◌, ◌≤◌, Bool, drop}
 use Rattle.std.proofs.lemmas.Bool.{leb-true}
 use Rattle.std.proofs.lemmas.Bool.Decides.{nat_tests}
@@ -27,6 +26,7 @@ use Rattle.pn_ranges.proofs.Follow.{Digits, Rest, RestOf}
 use Rattle.pn_ranges.proofs.Follow as w
 use Rattle.pn_ranges.proofs.FollowParts.{build-step, digits-step, end-step, hyphen-step, naught-step, part-step, plus-step, pre-step-on, whole-step, zeros-step}
 use Rattle.pn_ranges.proofs.FollowRanges.{bar-step, closed-step, dash-step, equal-step, far-step, gap-step, operand-step, sign-step, start-step}
+use Rattle.pn_ranges.proofs.Words.{and_false}
 
 -- a text in which the automaton stops behind so many bytes
 data StopsIn : State → List ℕ → ℕ → Type 0 where
@@ -155,7 +155,7 @@ comparators-form : (t : List ℕ) (k : ℕ) (ls : List Limit) → AreComparators
 comparators-form _ _ _ (g.one t x n c fit) = f.one t x n c
 comparators-form _ _ _ (g.more t s u x n k ls c fit a d) = f.more t s u x n c a (comparators-form u k ls d)
 
-range-form : (t : List ℕ) (k : ℕ) (ls : List Limit) → IsRange t k ls → f.IsForm t
+pub range-form : (t : List ℕ) (k : ℕ) (ls : List Limit) → IsRange t k ls → f.IsForm t
 range-form _ _ _ g.empty = f.empty
 range-form _ _ _ (g.comparators t k ls c) = f.comparators t (comparators-form t k ls c)
 range-form _ _ _ (g.hyphen a s r b low high i p q j fit) = f.hyphen a s r b low high i p q j
@@ -164,7 +164,7 @@ pub ranges-form : (t : List ℕ) (k : ℕ) (ls : List (List Limit)) → AreRange
 ranges-form _ _ _ (g.one s t r k ls a i b) = f.one s t r a (range-form t k ls i) b
 ranges-form _ _ _ (g.more s t r u k m ls lss a i b c) = f.more s t r u a (range-form t k ls i) b (ranges-form u m lss c)
 
-goes-on : (text : List ℕ) (at : ℕ) → HasBadByte text at → StopsAt text at
+goes-on : (text : List ℕ) (at : ℕ) → StopsByte text at → StopsAt text at
 goes-on text at h =
     let s = stopped text p.start (length text - at) h.first in
     let same : s.at ≡ at = let a = s.split in let b = h.within in omega arith in
@@ -231,11 +231,6 @@ one-digit b = elim (cases_Bool (is_digit b)) [
   small : (b : ℕ) → is_digit b ≡ true → nat_le (2 ^ 64) (0 * 10 + (b - 48)) ≡ false
   small b h = grind (arith, nat_tests)
 
-and-no : (x y z : Bool) → z ≡ false → (x && y && z) ≡ false
-and-no true true z h = h
-and-no true false z h = refl
-and-no false y z h = refl
-
 no-text : (s : State) → is_digits s ≡ true → Rest s [] []
 no-text (p.digits e k) h = record { rest = []; split = refl; whole = w.ends k [] (w.closed e [] w.ends) }
 no-text s h = cc h
@@ -253,7 +248,7 @@ large-digits false b c h = cc h
 to-digit : (s : State) (text : List ℕ) (at : ℕ) → LargeIn s text at → (u : List ℕ) × Rest s text (take (at + 1) text ++ u)
 to-digit s _ _ (here _ next b rest e l) =
     let d = large-digits (is_digits next) (is_digits s) (nat_le (2 ^ 64) (number_at (b ∷ rest))) l in
-    let small : (n : State) → step s b ≡ Some n → is_large s n (b ∷ []) ≡ false = λ n h. and-no (is_digits n) (not (is_digits s)) (nat_le (2 ^ 64) (number_at (b ∷ []))) (one-digit b) in
+    let small : (n : State) → step s b ≡ Some n → is_large s n (b ∷ []) ≡ false = λ n h. and_false (is_digits n && not (is_digits s)) (nat_le (2 ^ 64) (number_at (b ∷ []))) (one-digit b) in
     ([], any-text s (b ∷ []) (b ∷ rest) (b ∷ []) d.1 (rest-step s b [] [] small (subst (λ o. RestOf o [] []) (sym e) (no-text next d.0))))
 to-digit s _ _ (later _ next b at rest e l i) =
     let k = to-digit next rest at i in
@@ -272,8 +267,8 @@ long-at text at h e =
     let i : LargeIn p.start text at = subst (LargeIn p.start text) same s.is in
     record { front = to-digit p.start text at i; long = leb-true (2 ^ 64) (number_at (drop at text)) (long p.start text at i) }
 
-numbered : (text : List ℕ) (at : ℕ) → HasLargeNumber text at → IsLongAt text at ⊎ HasOver text (length text - at)
-numbered text at h = elim h.large [ inl e ↦ inl (long-at text at h.within e) | inr o ↦ inr o ]
+numbered : (text : List ℕ) (at : ℕ) → StopsNumber text at → IsLongAt text at
+numbered text at h = long-at text at h.within h.first
 
 pub place : PlaceLaw
 place = record { form = ranges-form; place = goes-on; number = numbered }

@@ -1,195 +1,208 @@
--- Where a limit doesn't fit there is no reading.
-use Rattle.std.proofs.Common.{◌≡◌, ◌≢◌, ℕ, true, false, List, [], ◌∷◌, ◌++◌, length, refl, sym, ap, subst, ◌∙◌, inl, inr, append_assoc, append-nil}
+-- Where the reader stops nothing is read, neither up to a range's end nor up to a bound that is raised.
+use Rattle.std.proofs.Common.{◌≡◌, ℕ, true, false, List, [], ◌∷◌, ◌++◌, length, Option, Some, None, refl, sym, ap, subst, ◌∙◌, arith, inl, inr, append_assoc, append-nil}
 use Rattle.std.specs.Prelude.{◌==◌}
-use Rattle.std.specs.List.{list_all}
-use Rattle.std.proofs.lemmas.Bool.{cases_Bool}
 use Rattle.pn_ranges.specs.declared.comparator.Sign.{Sign}
 use Rattle.pn_ranges.specs.declared.comparator.Sign.TheVariants as x
-use Rattle.pn_ranges.specs.declared.fault.Stop.{Stop}
 use Rattle.pn_ranges.specs.declared.fault.Stop.TheVariants as stop
 use Rattle.pn_ranges.specs.Bytes.{is_space, behind, starts_with}
-use Rattle.pn_ranges.specs.Grammar.{AreComparators, AreGaps, AreRanges, AreSpaces, IsComparator, IsEnd, IsRange, Spells}
+use Rattle.pn_ranges.specs.Forms as f
+use Rattle.pn_ranges.specs.Grammar.{AreGaps, AreSpaces, Begins, IsCompared, IsComparator, IsEnd}
 use Rattle.pn_ranges.specs.Grammar as g
 use Rattle.pn_ranges.specs.Limits.{Limit}
+use Rattle.pn_ranges.specs.Overs.{HasOver, NoLower, OverAt, OverLater, OverRange, OverUpper}
+use Rattle.pn_ranges.specs.Overs as o
 use Rattle.pn_ranges.specs.Places.{first_fault, gap, start}
-use Rattle.pn_ranges.specs.Reading.{SpacedAt, Stops, UpperAt}
-use Rattle.pn_ranges.specs.Table.{Named, any, full, major, minor, all_fit, between, limits, upper_limits}
-use Rattle.pn_ranges.specs.Unread.{Closes, NoComparators, NoLater, NoRanges, NoUpper, ends_range}
-use Rattle.pn_ranges.proofs.Fronts.{behind-append}
-use Rattle.pn_ranges.proofs.OverProofs.{all-append}
-use Rattle.pn_ranges.proofs.Same.{Same, Shape, is_body, is_mark, behind-all, comparator-mark, comparator-shape, end-shape, head-same, same-end, same-fit, same-shape, shape-at, upper-bare}
-use Rattle.pn_ranges.proofs.Steps.{run}
-use Rattle.pn_ranges.proofs.Stopped.{no-byte, no-number, ranges-form}
-use Rattle.pn_ranges.proofs.Words.{and_left, and_right}
-
--- behind a version
-ends-body : (r : List ℕ) → ends_range r ≡ true → starts_with is_body r ≡ false
-ends-body [] h = refl
-ends-body (b ∷ r) h = elim (cases_Bool (is_space b)) [
-  | inl space ↦ rw space refl
-  | inr other ↦ rw (other, h) refl
-]
-
-pub closes-body : (r : List ℕ) → Closes r → starts_with is_body r ≡ false
-closes-body [] h = refl
-closes-body (b ∷ r) h = elim (cases_Bool (is_space b)) [
-  | inl space ↦ rw space refl
-  | inr other ↦ let bar : (b == 124) ≡ true = rw other at h in rw (other, bar) refl
-]
-
-apart-body : (s r : List ℕ) → AreSpaces s → (ends_range r ≡ false → starts_with is_space s ≡ true) → starts_with is_body (s ++ r) ≡ false
-apart-body [] r a h = elim (cases_Bool (ends_range r)) [
-  | inl ends ↦ ends-body r ends
-  | inr more ↦ absurd (let y : false ≡ true = h more in cc)
-]
-apart-body (b ∷ s) r a h = rw (and_left (is_space b) (list_all is_space s) a) refl
-
-pub gap-body : (s r : List ℕ) → AreGaps s → starts_with is_body (s ++ r) ≡ false
-gap-body [] r a = absurd (let y : false ≡ true = a.some in cc)
-gap-body (b ∷ s) r a = rw a.some refl
+use Rattle.pn_ranges.specs.Reading.{LowerAt, SpacedAt, SpacedRange, UpperAt}
+use Rattle.pn_ranges.specs.Refusals.{NoOver}
+use Rattle.pn_ranges.specs.Table.{Named, all_fit, limits, named, upper_limits}
+use Rattle.pn_ranges.specs.Unread.{Closes, LaterTo, NeverTo, NoCompared, NoLater, NoRest, NoUpper, RangeTo, UpperTo, ends_range}
+use Rattle.pn_ranges.specs.Unread as u
+use Rattle.pn_ranges.proofs.Bars.{no_bar, spaced-bars}
+use Rattle.pn_ranges.proofs.Closings.{apart-body, closes-body, closes-spaces, gap-body}
+use Rattle.pn_ranges.proofs.Comparisons.{end-comparator}
+use Rattle.pn_ranges.proofs.Counts.{bars-split}
+use Rattle.pn_ranges.proofs.Faults.{fault-left}
+use Rattle.pn_ranges.proofs.Fronts.{behind-append, behind-same}
+use Rattle.pn_ranges.proofs.Inside.{past}
+use Rattle.pn_ranges.proofs.Passes.{forms-go}
+use Rattle.pn_ranges.proofs.Reached.{FirstTo, both, first-more-ranges, first-over, first-unique, later-begun, later-open, later-over, lower-not, onward, over, last, more, range-read, same-begun, upper-is}
+use Rattle.pn_ranges.proofs.Same.{Shape, behind-all, comparator-shape, head-same, same-end, same-split, upper-bare}
 
 -- the comparator at the front
 spaced-shape : (text rest : List ℕ) (s : Sign) (n : Named) (a : SpacedAt text s n rest) → Shape text s n (a.spaces ++ rest)
 spaced-shape text rest s n a = subst (λ z. Shape z s n (a.spaces ++ rest)) (sym a.split) (comparator-shape a.front s n a.read (a.spaces ++ rest))
 
-same-at : (text rest : List ℕ) (s : Sign) (n : Named) (a : SpacedAt text s n rest) (t : List ℕ) (z : Sign) (m : Named) → IsComparator t z m → (y : List ℕ) → starts_with is_body y ≡ false
-    → text ≡ behind is_space (t ++ y) → Same s z n m (a.spaces ++ rest) y
-same-at text rest s n a t z m c y b e =
-    same-shape text (a.spaces ++ rest) y s z n m (spaced-shape text rest s n a) (shape-at text (t ++ y) y z m e (comparator-shape t z m c y)) (apart-body a.spaces rest a.blank a.apart) b
+same-rest : (text rest : List ℕ) → text ≡ rest → starts_with is_space rest ≡ false → behind is_space text ≡ rest
+same-rest text rest e h = ap (behind is_space) e ∙ behind-same is_space rest h
 
-clash : (text rest : List ℕ) (s : Sign) (n : Named) (a : SpacedAt text s n rest) → all_fit (limits s n) ≡ false → (t : List ℕ) (z : Sign) (m : Named) → IsComparator t z m
-    → all_fit (limits z m) ≡ true → (y : List ℕ) → starts_with is_body y ≡ false → text ≡ behind is_space (t ++ y) → ⊥
-clash text rest s n a fit t z m c ok y b e =
-    let q = same-at text rest s n a t z m c y b e in
-    let w : false ≡ true = sym fit ∙ same-fit s z n m (a.spaces ++ rest) y q ∙ ok in
-    cc w
+-- no comparator is read
+pub later-none : (text : List ℕ) → starts_with is_space text ≡ false → NoCompared text → NeverTo LaterTo text
+later-none text sp none = λ other to w e.
+    let b = later-begun other to w in
+    none b.front b.rest b.sign b.name b.is b.ends (sym (same-rest text text refl sp) ∙ sym e ∙ ap (behind is_space) b.split)
 
-pub no-first : (text rest : List ℕ) (s : Sign) (n : Named) → SpacedAt text s n rest → all_fit (limits s n) ≡ false
-    → (t r : List ℕ) (k : ℕ) (ls : List Limit) → AreComparators t k ls → Closes r → text ≡ behind is_space (t ++ r) → ⊥
-no-first text rest s n a fit _ r _ _ (g.one t z m c ok) h e = clash text rest s n a fit t z m c ok r (closes-body r h) e
-no-first text rest s n a fit _ r _ _ (g.more t p u z m k ls c ok q w) h e =
-    let same : (t ++ (p ++ u)) ++ r ≡ t ++ (p ++ (u ++ r)) = simp append_assoc in
-    clash text rest s n a fit t z m c ok (p ++ (u ++ r)) (gap-body p (u ++ r) q) (e ∙ ap (behind is_space) same)
+pub range-none : (text : List ℕ) → starts_with is_space text ≡ false → ends_range text ≡ false → NoCompared text → NeverTo RangeTo text
+range-none text sp some none = never where
+  never : (other : List ℕ) (to : Option ℕ) → RangeTo other to → behind is_space other ≡ behind is_space text → ⊥
+  never other _ (u.empty _ h) e = both (ends_range (behind is_space other)) h (ap ends_range (e ∙ same-rest text text refl sp) ∙ some)
+  never other to (u.comparators _ _ l w) e = later-none text sp none other to w e
+  never _ to (u.upper a s v n _ i p w) e =
+      none a (s ++ 45 ∷ v) x.Exact n (end-comparator a n i) (gap-body s (45 ∷ v) p) (sym (same-rest text text refl sp) ∙ sym e)
 
+-- a comparator more
+later-rest : (spaces rest : List ℕ) → AreSpaces spaces → behind is_space (spaces ++ rest) ≡ behind is_space rest
+later-rest spaces rest a = behind-append is_space spaces rest a
+
+pub later-more : (text rest : List ℕ) (s : Sign) (n : Named) → SpacedAt text s n rest → starts_with is_space rest ≡ false → all_fit (limits s n) ≡ true → NoLater rest → NeverTo LaterTo text
+later-more text rest s n a sp fit none = λ other to w e.
+    elim (onward other text (a.spaces ++ rest) s n to w (spaced-shape text rest s n a) (apart-body a.spaces rest a.blank a.apart) e) [
+      | over large is ↦ both (all_fit (limits s n)) fit large
+      | last fit2 h is ↦ both (ends_range rest) (sym (ap ends_range (later-rest a.spaces rest a.blank ∙ same-rest rest rest refl sp)) ∙ h) none.0
+      | more v fit2 y q ↦ none.1 v to y (q ∙ later-rest a.spaces rest a.blank)
+    ]
+
+pub over-more : (text rest : List ℕ) (s : Sign) (n : Named) → SpacedAt text s n rest → starts_with is_space rest ≡ false → all_fit (limits s n) ≡ true
+    → (left : ℕ) → OverLater rest left → OverLater text left
+over-more text rest s n a sp fit left w =
+    let further : ends_range rest ≡ false = sym (ap ends_range (same-rest rest rest refl sp)) ∙ over-open rest left w in
+    subst (λ z. OverLater z left) (sym a.split) (o.behind a.front a.spaces rest s n left a.read fit (record { spaces = a.blank; some = a.apart further }) w) where
+      over-open : (v : List ℕ) (m : ℕ) → OverLater v m → ends_range (behind is_space v) ≡ false
+      over-open v m y = later-open v (Some m) (later-over v m y)
+
+-- `A - B`
 rest-of : (s r y : List ℕ) → AreSpaces s → starts_with is_space r ≡ false → s ++ r ≡ y → r ≡ behind is_space y
 rest-of s r y a h e = sym (behind-all is_space s r a h) ∙ ap (behind is_space) e
 
-pub no-later : (text rest : List ℕ) (s : Sign) (n : Named) → SpacedAt text s n rest → starts_with is_space rest ≡ false → NoLater rest
-    → (t r : List ℕ) (k : ℕ) (ls : List Limit) → AreComparators t k ls → Closes r → text ≡ behind is_space (t ++ r) → ⊥
-no-later text rest s n a sp none _ r _ _ (g.one t z m c ok) h e =
-    let q = same-at text rest s n a t z m c r (closes-body r h) e in
-    let w : false ≡ true = sym none.0 ∙ ap ends_range (rest-of a.spaces rest r a.blank sp q.rest) ∙ h in
-    cc w
-no-later text rest s n a sp none _ r _ _ (g.more t p u z m k ls c ok d w) h e =
-    let same : (t ++ (p ++ u)) ++ r ≡ t ++ (p ++ (u ++ r)) = simp append_assoc in
-    let q = same-at text rest s n a t z m c (p ++ (u ++ r)) (gap-body p (u ++ r) d) (e ∙ ap (behind is_space) same) in
-    none.1 u r k ls w h (rest-of a.spaces rest (p ++ (u ++ r)) a.blank sp q.rest ∙ behind-append is_space p (u ++ r) d.spaces)
+upper-rest : (text rest : List ℕ) (z : Sign) (n : Named) → SpacedAt text z n rest → starts_with is_space rest ≡ false → (a s v : List ℕ) (m : Named) → IsEnd a m → AreGaps s
+    → behind is_space (a ++ (s ++ 45 ∷ v)) ≡ behind is_space text → rest ≡ 45 ∷ v
+upper-rest text rest z n k sp a s v m i p e =
+    let q = same-begun text (k.spaces ++ rest) a (s ++ 45 ∷ v) z x.Exact n m (spaced-shape text rest z n k) (apart-body k.spaces rest k.blank k.apart) (end-comparator a m i)
+    (gap-body s (45 ∷ v) p) e in
+    rest-of k.spaces rest (s ++ 45 ∷ v) k.blank sp q.rest ∙ behind-all is_space s (45 ∷ v) p.spaces refl
 
--- behind a comparator no `-` stands in front of another
-no-dash : (rest over : List ℕ) → rest ≡ 45 ∷ over → (t r : List ℕ) (k : ℕ) (ls : List Limit) → AreComparators t k ls → Closes r → rest ≡ behind is_space (t ++ r) → ⊥
-no-dash rest over d _ r _ _ (g.one t z m c ok) h e =
-    let w : true ≡ false = ap (starts_with is_mark) (sym d ∙ e) ∙ comparator-mark t z m c r in
-    cc w
-no-dash rest over d _ r _ _ (g.more t p u z m k ls c ok q w) h e =
-    let y : true ≡ false = ap (starts_with is_mark) (sym d ∙ e ∙ ap (behind is_space) (append_assoc t (p ++ u) r)) ∙ comparator-mark t z m c ((p ++ u) ++ r) in
-    cc y
+tail-of : (s t : List ℕ) → 45 ∷ s ≡ 45 ∷ t → s ≡ t
+tail-of s t h = cc h
 
-pub dash-later : (rest over : List ℕ) → rest ≡ 45 ∷ over → NoLater rest
-dash-later rest over d = (ap ends_range d, no-dash rest over d)
+pub hyphen-none : (text rest back : List ℕ) (z : Sign) (n : Named) → SpacedAt text z n rest → starts_with is_space text ≡ false → ends_range text ≡ false → starts_with is_space rest ≡ false
+    → LowerAt text n rest → rest ≡ 45 ∷ back → NoRest back → NeverTo RangeTo text
+hyphen-none text rest back z n k st some sp low d none = never where
+  whole : text ≡ low.front ++ (low.spaces ++ 45 ∷ back)
+  whole = low.split ∙ ap (λ y. low.front ++ (low.spaces ++ y)) d
 
--- `A - B`
-abbrev pub NoHyphen : List ℕ → Type 0
-NoHyphen text = (a s r b y : List ℕ) (low high : Named) → IsEnd a low → AreGaps s → AreGaps r → IsEnd b high → all_fit (between low high) ≡ true → Closes y
-    → text ≡ behind is_space ((a ++ (s ++ 45 ∷ (r ++ b))) ++ y) → ⊥
+  never : (other : List ℕ) (to : Option ℕ) → RangeTo other to → behind is_space other ≡ behind is_space text → ⊥
+  never other _ (u.empty _ h) e = both (ends_range (behind is_space other)) h (ap ends_range (e ∙ same-rest text text refl st) ∙ some)
+  never other to (u.comparators _ _ l w) e =
+      lower-not other low.front low.spaces back n l low.read (record { spaces = low.blank; some = low.apart (ap ends_range d) }) (e ∙ ap (behind is_space) whole)
+  never _ to (u.upper a s v m _ i p w) e =
+      none to (subst (λ y. UpperTo y to) (tail-of v back (sym (upper-rest text rest z n k sp a s v m i p e) ∙ d)) w)
 
-hyphen-rest : (text rest : List ℕ) (z : Sign) (n : Named) → SpacedAt text z n rest → starts_with is_space rest ≡ false → (a s r b y : List ℕ) (low : Named) → IsEnd a low → AreGaps s
-    → text ≡ behind is_space ((a ++ (s ++ 45 ∷ (r ++ b))) ++ y) → rest ≡ 45 ∷ (r ++ (b ++ y))
-hyphen-rest text rest z n k sp a s r b y low i p e =
-    let tail = s ++ 45 ∷ (r ++ (b ++ y)) in
-    let same : (a ++ (s ++ 45 ∷ (r ++ b))) ++ y ≡ a ++ (s ++ 45 ∷ (r ++ (b ++ y))) = simp append_assoc in
-    let q = same-shape text (k.spaces ++ rest) tail z x.Exact n low (spaced-shape text rest z n k)
-    (shape-at text (a ++ tail) tail x.Exact low (e ∙ ap (behind is_space) same) (end-shape a tail low i)) (apart-body k.spaces rest k.blank k.apart) (gap-body s (45 ∷ (r ++ (b ++ y))) p) in
-    rest-of k.spaces rest tail k.blank sp q.rest ∙ behind-all is_space s (45 ∷ (r ++ (b ++ y))) p.spaces refl
-
-between-upper : (low high : Named) → all_fit (between low high) ≡ true → all_fit (upper_limits high) ≡ true
-between-upper any any h = refl
-between-upper any (major a) h = h
-between-upper any (minor a b) h = h
-between-upper any (full a b c p) h = h
-between-upper (major a) high h = and_right _ (all_fit (upper_limits high)) h
-between-upper (minor a b) high h = and_right _ (all_fit (upper_limits high)) h
-between-upper (full a b c p) high h = and_right _ (all_fit (upper_limits high)) h
-
-tail-of : (a b : ℕ) (s t : List ℕ) → a ∷ s ≡ b ∷ t → s ≡ t
-tail-of a b s t h = cc h
-
-pub dash-hyphen : (text rest over : List ℕ) (z : Sign) (n : Named) → SpacedAt text z n rest → starts_with is_space rest ≡ false → rest ≡ 45 ∷ over → NoUpper over → NoHyphen text
-dash-hyphen text rest over z n k sp d none = λ a s r b y low high i p q j fit h e.
-    let is = hyphen-rest text rest z n k sp a s r b y low i p e in
-    none r b y high q j (between-upper low high fit) h (tail-of 45 45 over (r ++ (b ++ y)) (sym d ∙ is))
-
-pub no-upper : (text rest : List ℕ) (high : Named) → UpperAt text high rest → all_fit (upper_limits high) ≡ false → NoUpper text
-no-upper text rest high u fit = λ s t y n a i ok h e.
-    let back = u.spaces ++ rest in
-    let left = behind-append is_space u.gaps (u.front ++ back) u.apart.spaces ∙ head-same u.front back high u.read in
-    let right = behind-append is_space s (t ++ y) a.spaces ∙ head-same t y n i in
-    let same = sym left ∙ ap (behind is_space) (sym u.split ∙ e) ∙ right in
-    let q = same-end u.front t back y high n u.read i (apart-body u.spaces rest u.blank u.behind) (closes-body y h) same in
-    let w : false ≡ true = sym fit ∙ upper-bare high ∙ ap (λ z. all_fit (upper_limits z)) q.0 ∙ sym (upper-bare n) ∙ ok in
-    cc w
-
--- ranges
-record Leads (whole : List ℕ) : Type 0 where
-  front : List ℕ
-  rest : List ℕ
-  count : ℕ
-  limits : List Limit
-  is : IsRange front count limits
-  closes : Closes rest
-  split : behind is_space whole ≡ behind is_space (front ++ rest)
-
-pub closes-spaces : (r tail : List ℕ) → AreSpaces r → starts_with is_space tail ≡ false → ends_range tail ≡ true → Closes (r ++ tail)
-closes-spaces r tail a h e = ap ends_range (behind-all is_space r tail a h) ∙ e
-
-leads : (whole : List ℕ) (k : ℕ) (lss : List (List Limit)) → AreRanges whole k lss → Leads whole
-leads _ _ _ (g.one s t r k ls a i b) =
-    record { front = t; rest = r; count = k; limits = ls; is = i; closes = subst Closes (append-nil r) (closes-spaces r [] b refl refl); split = behind-append is_space s (t ++ r) a }
-leads _ _ _ (g.more s t r u k m ls lss a i b w) = record {
-  front = t;
-  rest = r ++ 124 ∷ 124 ∷ u;
-  count = k;
-  limits = ls;
-  is = i;
-  closes = closes-spaces r (124 ∷ 124 ∷ u) b refl refl;
-  split = behind-append is_space s (t ++ (r ++ 124 ∷ 124 ∷ u)) a;
-}
-
-range-none : (text y : List ℕ) → ends_range text ≡ false → NoComparators text → NoHyphen text → (t : List ℕ) (k : ℕ) (ls : List Limit) → IsRange t k ls → Closes y
-    → text ≡ behind is_space (t ++ y) → ⊥
-range-none text y some c d _ _ _ g.empty h e = let w : false ≡ true = sym some ∙ ap ends_range e ∙ h in cc w
-range-none text y some c d _ _ _ (g.comparators t k ls w) h e = c t y k ls w h e
-range-none text y some c d _ _ _ (g.hyphen a s r b low high i p q j fit) h e = d a s r b y low high i p q j fit h e
-
-pub no-range : (text : List ℕ) → starts_with is_space text ≡ false → ends_range text ≡ false → NoComparators text
-    → ((p : List ℕ) (k : ℕ) (lss : List (List Limit)) → AreSpaces p → AreRanges (p ++ text) k lss → NoHyphen text) → NoRanges text
-no-range text sp some c d = λ p k lss a w.
-    let l = leads (p ++ text) k lss w in
-    range-none text l.rest some c (d p k lss a w) l.front l.count l.limits l.is l.closes (sym (behind-all is_space p text a sp) ∙ l.split)
+pub hyphen-over : (text rest back : List ℕ) (n : Named) → LowerAt text n rest → rest ≡ 45 ∷ back → (left : ℕ) → OverUpper back left → OverRange text left
+hyphen-over text rest back n low d left w =
+    subst (λ z. OverRange z left) (sym (low.split ∙ ap (λ y. low.front ++ (low.spaces ++ y)) d))
+    (o.upper low.front low.spaces back n left low.read (record { spaces = low.blank; some = low.apart (ap ends_range d) }) w)
 
 -- where no `-` may come
-pub plain-hyphen : (text rest : List ℕ) (z : Sign) (n : Named) → SpacedAt text z n rest → starts_with is_space text ≡ false → starts_with is_space rest ≡ false
-    → first_fault start text ≡ first_fault (gap false) rest → (p : List ℕ) (k : ℕ) (lss : List (List Limit)) → AreSpaces p → AreRanges (p ++ text) k lss → NoHyphen text
-plain-hyphen text rest z n c st sp f p k lss a w = λ l s r b y low high i o q j fit h e.
-    let is = hyphen-rest text rest z n c sp l s r b y low i o e in
-    let fault = run start is_space (λ b h. rw h refl) (p ++ text) ∙ ap (first_fault start) (behind-all is_space p text a st) ∙ f ∙ ap (first_fault (gap false)) is in
-    no-byte (p ++ text) (length (45 ∷ (r ++ (b ++ y)))) (ranges-form (p ++ text) k lss w) fault
+dash-form : (s a p : List ℕ) (n : Named) → AreSpaces s → IsEnd a n → AreGaps p → f.AreForms ((s ++ (a ++ p)) ++ 45 ∷ 32 ∷ 48 ∷ [])
+dash-form s a p n b i q =
+    let zero : IsEnd (48 ∷ []) (named (Some 0) None None []) = g.end [] (48 ∷ []) _ refl (g.one (48 ∷ []) (Some 0) (g.number (48 ∷ []) 0 g.zero (omega arith))) in
+    let same : s ++ ((a ++ (p ++ 45 ∷ (32 ∷ [] ++ 48 ∷ []))) ++ []) ≡ (s ++ (a ++ p)) ++ 45 ∷ 32 ∷ 48 ∷ [] =
+    ap (λ z. s ++ z) (append-nil (a ++ (p ++ 45 ∷ 32 ∷ 48 ∷ []))) ∙ simp append_assoc in
+    subst f.AreForms same (f.one s _ [] b (f.hyphen a p (32 ∷ []) (48 ∷ []) n _ i q (record { spaces = refl; some = refl }) zero) refl)
+
+pub no-lower : (text rest : List ℕ) (z : Sign) (n : Named) → SpacedAt text z n rest → starts_with is_space rest ≡ false → first_fault start text ≡ first_fault (gap false) rest → NoLower text
+no-lower text rest z n k sp h = λ s a p r m b i q e.
+    let line : (s ++ (a ++ p)) ++ 45 ∷ r ≡ s ++ (a ++ (p ++ 45 ∷ r)) = simp append_assoc in
+    let is = upper-rest text rest z n k sp a p r m i q (sym (ap (behind is_space) e ∙ behind-append is_space s (a ++ (p ++ 45 ∷ r)) b)) in
+    let y = past (s ++ (a ++ p)) start 45 r (32 ∷ 48 ∷ []) refl (forms-go _ (dash-form s a p m b i q)) in
+    let fault : first_fault y.0 r ≡ Some (stop.Byte (length (45 ∷ r))) = sym y.1 ∙ ap (first_fault start) (line ∙ sym e) ∙ h ∙ ap (first_fault (gap false)) is in
+    let left = fault-left r y.0 (stop.Byte (length (45 ∷ r))) fault in
+    omega arith
+
+pub later-range : (text : List ℕ) → starts_with is_space text ≡ false → ends_range text ≡ false → NoLower text → NeverTo LaterTo text → NeverTo RangeTo text
+later-range text st some low none = never where
+  never : (other : List ℕ) (to : Option ℕ) → RangeTo other to → behind is_space other ≡ behind is_space text → ⊥
+  never other _ (u.empty _ h) e = both (ends_range (behind is_space other)) h (ap ends_range (e ∙ same-rest text text refl st) ∙ some)
+  never other to (u.comparators _ _ l w) e = none other to w e
+  never _ to (u.upper a s v m _ i p w) e = lower-not text a s v m low i p (sym e)
+
+-- upper ends
+upper-none : (text : List ℕ) (to : Option ℕ) → UpperTo text to → NoUpper text → ⊥
+upper-none text _ (u.raised _ left a) none = none a.gaps a.front a.rest a.name a.apart a.read a.ends a.split
+upper-none _ _ (u.last s t rest n a i fit h) none = none s t rest n a i (closes-body rest h) refl
+
+pub rest-none : (text : List ℕ) → NoUpper text → NoRest text
+rest-none text none = λ to w. upper-none text to w none
+
+pub rest-closed : (text rest : List ℕ) (high : Named) → UpperAt text high rest → starts_with is_space rest ≡ false → ends_range rest ≡ false → all_fit (upper_limits high) ≡ true → NoRest text
+rest-closed text rest high a sp some fit = λ to w.
+    let ends = apart-body a.spaces rest a.blank a.behind in
+    let back = a.spaces ++ rest in
+    let left : behind is_space text ≡ a.front ++ back = ap (behind is_space) a.split ∙ behind-append is_space a.gaps (a.front ++ back) a.apart.spaces ∙ head-same a.front back high a.read in
+    let q = upper-is text to w in
+    let e = same-end a.front q.front back q.rest high q.name a.read q.is ends q.ends (sym left ∙ q.split) in
+    let fits : all_fit (upper_limits high) ≡ all_fit (upper_limits q.name) = upper-bare high ∙ ap (λ z. all_fit (upper_limits z)) e.0 ∙ sym (upper-bare q.name) in
+    elim q.fit [
+      | inl v ↦ both (all_fit (upper_limits high)) fit (fits ∙ v.0)
+      | inr v ↦ both (ends_range rest) (sym (ap ends_range (later-rest a.spaces rest a.blank ∙ same-rest rest rest refl sp)) ∙ ap (λ z. ends_range (behind is_space z)) e.1 ∙ v.1) some
+    ]
 
 -- sets of ranges
-pub into-none : (text lead mid : List ℕ) → AreSpaces lead → text ≡ lead ++ mid → NoRanges mid → NoRanges text
-into-none text lead mid b split none = λ p k lss a w.
-    none (p ++ lead) k lss (all-append is_space p lead a b) (subst (λ z. AreRanges z k lss) (ap (λ z. p ++ z) split ∙ sym (append_assoc p lead mid)) w)
+pub first-of : (text : List ℕ) (left : ℕ) → HasOver text left → (to : Option ℕ) × FirstTo text to
+first-of _ left (o.here s v _ a w) = (Some left, first-over s v left a w)
+first-of _ left (o.behind s t r v k ls _ a i b h) = (None, first-more-ranges s t r v k ls a i b)
 
-pub none-read : (text : List ℕ) (s : Stop) → Stops (NoRanges text) (first_fault start text) text s → s ≢ stop.Memory → (r : List (List Limit)) → Spells text r → ⊥
-none-read text (stop.Byte n) h m r i = no-byte text n (ranges-form text i.count r i.read) h
-none-read text (stop.Number n) h m r i = elim h [ inl f ↦ no-number text n (ranges-form text i.count r i.read) f | inr o ↦ o.1 [] i.count r refl i.read ]
-none-read text stop.Memory h m r i = m refl
+pub into-none : (text mid : List ℕ) → behind is_space mid ≡ behind is_space text → NeverTo RangeTo mid → NoOver text
+into-none text mid e none = λ left h. let p = first-of text left h in none p.1.whole p.0 p.1.is (p.1.same ∙ sym e)
+
+pub into-over : (text lead mid : List ℕ) → AreSpaces lead → text ≡ lead ++ mid → (left : ℕ) → OverRange mid left → HasOver text left
+into-over text lead mid b split left w = subst (λ z. HasOver z left) (sym split) (o.here lead mid left b w)
+
+-- a range and what is behind it
+spaced-first : (text rest : List ℕ) (k : ℕ) (ls : List Limit) → SpacedRange text k ls rest → starts_with is_space rest ≡ false → ends_range rest ≡ true → FirstTo text None
+spaced-first text rest k ls a sp ends = record {
+  whole = a.front ++ (a.spaces ++ rest);
+  is = range-read a.front (a.spaces ++ rest) k ls a.read (closes-spaces a.spaces rest a.blank sp ends);
+  same = sym (behind-append is_space a.lead (a.front ++ (a.spaces ++ rest)) a.before) ∙ ap (behind is_space) (sym a.split);
+}
+
+-- in what is behind its `||` a bound is raised
+record NextOver (rest : List ℕ) (left : ℕ) : Type 0 where
+  next : List ℕ
+  is : rest ≡ 124 ∷ 124 ∷ next
+  over : HasOver next left
+
+next-over : (text : List ℕ) (left : ℕ) → HasOver text left → (whole rest : List ℕ) (k : ℕ) (ls : List Limit) → SpacedRange whole k ls rest → starts_with no_bar rest ≡ false
+    → starts_with is_space rest ≡ false → ends_range rest ≡ true → text ≡ whole → NextOver rest left
+next-over _ left (o.here s v _ a w) whole rest k ls q bar sp ends e =
+    let x : Some left ≡ None = first-unique (s ++ v) whole (Some left) None (first-over s v left a w) (spaced-first whole rest k ls q sp ends) e in
+    absurd (cc x)
+next-over _ left (o.behind s t r v k ls _ a i b h) whole rest m js q bar sp ends e =
+    let line : whole ≡ (q.lead ++ (q.front ++ q.spaces)) ++ rest = q.split ∙ simp append_assoc in
+    let z = same-split no_bar (s ++ (t ++ r)) (124 ∷ 124 ∷ v) (q.lead ++ (q.front ++ q.spaces)) rest (spaced-bars s t r k ls a i b) refl (spaced-bars q.lead q.front q.spaces m js q.before q.read q.blank)
+    bar (sym (bars-split s t r v) ∙ e ∙ line) in
+    record { next = v; is = sym z.1; over = h }
+
+bar-stops : (rest back : List ℕ) → rest ≡ 124 ∷ back → (starts_with no_bar rest ≡ false) × (starts_with is_space rest ≡ false) × (ends_range rest ≡ true)
+bar-stops rest back e = (ap (starts_with no_bar) e, ap (starts_with is_space) e, ap ends_range e)
+
+bars-tail : (s t : List ℕ) → 124 ∷ 124 ∷ s ≡ 124 ∷ 124 ∷ t → s ≡ t
+bars-tail s t h = cc h
+
+bar-tail : (s t : List ℕ) → 124 ∷ s ≡ 124 ∷ t → s ≡ t
+bar-tail s t h = cc h
+
+pub next-none : (text rest next : List ℕ) (k : ℕ) (ls : List Limit) → SpacedRange text k ls rest → rest ≡ 124 ∷ 124 ∷ next → NoOver next → NoOver text
+next-none text rest next k ls a d none = λ left h.
+    let b = bar-stops rest (124 ∷ next) d in
+    let n = next-over text left h text rest k ls a b.0 b.1 b.2 refl in
+    none left (subst (λ z. HasOver z left) (bars-tail n.next next (sym n.is ∙ d)) n.over)
+
+pub next-wider : (text rest next : List ℕ) (k : ℕ) (ls : List Limit) → SpacedRange text k ls rest → rest ≡ 124 ∷ 124 ∷ next → (left : ℕ) → HasOver next left → HasOver text left
+next-wider text rest next k ls a d left h =
+    subst (λ z. HasOver z left) (sym (a.split ∙ ap (λ y. a.lead ++ (a.front ++ (a.spaces ++ y))) d)) (o.behind a.lead a.front a.spaces next k ls left a.before a.read a.blank h)
+
+pub bar-none : (text rest back : List ℕ) (k : ℕ) (ls : List Limit) → SpacedRange text k ls rest → rest ≡ 124 ∷ back → starts_with (λ b. b == 124) back ≡ false → NoOver text
+bar-none text rest back k ls a d none = λ left h.
+    let b = bar-stops rest back d in
+    let n = next-over text left h text rest k ls a b.0 b.1 b.2 refl in
+    both (starts_with (λ b. b == 124) back) (ap (starts_with (λ b. b == 124)) (bar-tail back (124 ∷ n.next) (sym d ∙ n.is))) none

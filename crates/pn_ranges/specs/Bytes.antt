@@ -1,5 +1,5 @@
 -- The bytes of ranges, and numbers in decimal digits.
-use Rattle.std.specs.Prelude.{ℕ, ◌+◌, ◌-◌, ◌*◌, ◌==◌, ◌&&◌, ◌||◌, nat_le, Bool, false, List, [], ◌∷◌, if◌then◌else◌}
+use Rattle.std.specs.Prelude.{ℕ, ◌+◌, ◌-◌, ◌*◌, ◌==◌, ◌&&◌, ◌||◌, not, nat_le, Bool, false, List, [], ◌∷◌, if◌then◌else◌}
 use Rattle.semver.specs.Grammar.{is_identifier_byte}
 
 -- a space or a tab
@@ -16,6 +16,17 @@ is_wild b = (b == 120) || (b == 88) || (b == 42)
 
 abbrev pub is_digit : ℕ → Bool
 is_digit b = nat_le 48 b && nat_le b 57
+
+-- a byte that begins a part: a digit or a wildcard
+abbrev pub is_open : ℕ → Bool
+is_open b = is_digit b || is_wild b
+
+-- a space, a tab or a `|`: none of them stands in a version
+abbrev pub is_stop : ℕ → Bool
+is_stop b = is_space b || (b == 124)
+
+abbrev pub is_body : ℕ → Bool
+is_body b = not (is_stop b)
 
 abbrev pub starts_with : (ℕ → Bool) → List ℕ → Bool
 starts_with test [] = false

@@ -9,5 +9,6 @@ pub mod Places
 pub mod Unread
 pub mod Reading
 pub mod Refusals
+pub mod RefusalLaw
 pub mod Laws
 pub mod PlaceLaw

@@ -1,11 +1,10 @@
 -- The place of a wrong byte, in the words of the grammar.
-use Rattle.std.specs.Prelude.{◌≡◌, ◌<◌, ◌≤◌, ◌^◌, ◌+◌, ◌-◌, ◌⊎◌, ℕ, List, drop, length, take}
+use Rattle.std.specs.Prelude.{◌≡◌, ◌<◌, ◌≤◌, ◌^◌, ◌+◌, ℕ, List, drop, length, take}
 use Rattle.pn_ranges.specs.Bytes.{number_at}
 use Rattle.pn_ranges.specs.Forms.{AreForms, IsFront}
 use Rattle.pn_ranges.specs.Grammar.{AreRanges}
 use Rattle.pn_ranges.specs.Limits.{Limit}
-use Rattle.pn_ranges.specs.Overs.{HasOver}
-use Rattle.pn_ranges.specs.Refusals.{HasBadByte, HasLargeNumber}
+use Rattle.pn_ranges.specs.Refusals.{StopsByte, StopsNumber}
 
 -- the bytes before a place begin some text of the form, and with the byte there they begin none; at the end, the text
 -- itself is none
@@ -20,9 +19,9 @@ pub record IsLongAt (text : List ℕ) (at : ℕ) : Type 0 where
   pub front : IsFront (take (at + 1) text)
   pub long : 2 ^ 64 ≤ number_at (drop at text)
 
--- what spells ranges is of the form; a wrong byte is named at the first place where no reading of the form goes on, and
--- a number that is too large where it is written or where a limit raises it
+-- what spells ranges is of the form; a wrong byte stands at the first place where no reading of the form goes on, and a
+-- number that is too large where it is written
 pub record PlaceLaw : Type 0 where
   pub form : (text : List ℕ) (k : ℕ) (ranges : List (List Limit)) → AreRanges text k ranges → AreForms text
-  pub place : (text : List ℕ) (at : ℕ) → HasBadByte text at → StopsAt text at
-  pub number : (text : List ℕ) (at : ℕ) → HasLargeNumber text at → IsLongAt text at ⊎ HasOver text (length text - at)
+  pub place : (text : List ℕ) (at : ℕ) → StopsByte text at → StopsAt text at
+  pub number : (text : List ℕ) (at : ℕ) → StopsNumber text at → IsLongAt text at

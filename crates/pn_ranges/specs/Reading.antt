@@ -1,14 +1,31 @@
 -- What the reader has read, and where it stops.
-use Rattle.std.specs.Prelude.{◌≡◌, ◌⊎◌, ℕ, ◌+◌, true, false, List, ◌++◌, Option, Some}
+use Rattle.std.specs.Prelude.{◌≡◌, ◌⊎◌, ◌==◌, ℕ, ◌+◌, true, false, List, [], ◌∷◌, ◌++◌, Option, Some, if◌then◌else◌}
 use Rattle.pn_ranges.specs.declared.comparator.Sign.{Sign}
+use Rattle.pn_ranges.specs.declared.comparator.Sign.TheVariants as x
 use Rattle.pn_ranges.specs.declared.fault.Stop.{Stop}
 use Rattle.pn_ranges.specs.declared.fault.Stop.TheVariants as stop
 use Rattle.pn_ranges.specs.Bytes.{is_space, starts_with}
 use Rattle.pn_ranges.specs.Grammar.{AreComparators, AreGaps, AreRanges, AreSpaces, IsComparator, IsEnd, IsRange}
 use Rattle.pn_ranges.specs.Limits.{Limit}
-use Rattle.pn_ranges.specs.Overs.{HasOver}
 use Rattle.pn_ranges.specs.Table.{Named, all_fit, between}
 use Rattle.pn_ranges.specs.Unread.{ends_range}
+
+-- an operator, which a `=` makes longer, and what is behind it
+abbrev pub joined : Sign → Sign → List ℕ → Sign × List ℕ
+joined s l [] = (s, [])
+joined s l (b ∷ t) = if b == 61 then (l, t) else (s, b ∷ t)
+
+-- what is behind a `~`, or a `~>`
+abbrev pub tilded : List ℕ → List ℕ
+tilded [] = []
+tilded (b ∷ t) = if b == 62 then t else b ∷ t
+
+-- the operator at the front, and what is behind it
+abbrev pub signed : List ℕ → Sign × List ℕ
+signed [] = (x.Exact, [])
+signed (b ∷ t) =
+    if b == 60 then joined x.Less x.AtMost t else if b == 62 then joined x.Greater x.AtLeast t else if b == 126 then (x.Tilde, tilded t)
+    else if b == 94 then (x.Caret, t) else if b == 61 then (x.Exact, t) else (x.Exact, b ∷ t)
 
 -- comparators and the spaces behind them
 pub record ComparatorsAt (text : List ℕ) (k : ℕ) (ls : List Limit) (rest : List ℕ) : Type 0 where
@@ -73,11 +90,17 @@ pub record SpacedRange (text : List ℕ) (k : ℕ) (ls : List Limit) (rest : Lis
   pub read : IsRange front k ls
   pub blank : AreSpaces spaces
 
--- why the reader stops, beside the first fault of the automaton, and that there is no reading where a limit doesn't fit
-abbrev pub Stops : Type 0 → Option Stop → List ℕ → Stop → Type 0
-Stops none found text stop.Memory = Unit {0}
-Stops none found text (stop.Byte n) = found ≡ Some (stop.Byte n)
-Stops none found text (stop.Number n) = (found ≡ Some (stop.Number n)) ⊎ (HasOver text n × none)
+-- how many bytes are left from the place of a stop on
+abbrev pub left_of : Stop → ℕ
+left_of (stop.Byte n) = n
+left_of (stop.Number n) = n
+left_of stop.Memory = 0
+
+-- why the reader stops: by the first fault of the automaton, where no bound is raised, or by a bound that is raised
+abbrev pub Stops : (ℕ → Type 0) → Type 0 → Option Stop → Stop → Type 0
+Stops Over none found stop.Memory = Unit {0}
+Stops Over none found (stop.Byte n) = (found ≡ Some (stop.Byte n)) × none
+Stops Over none found (stop.Number n) = ((found ≡ Some (stop.Number n)) × none) ⊎ Over n
 
 -- ranges with `||` behind each, which ranges behind them go on from
 pub record RangesBefore (text rest : List ℕ) (count : ℕ) (ranges : List (List Limit)) : Type 0 where

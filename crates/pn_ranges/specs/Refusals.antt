@@ -9,15 +9,33 @@ use Rattle.pn_ranges.specs.Limits.{Limit}
 use Rattle.pn_ranges.specs.Places.{first_fault, start}
 use Rattle.pn_ranges.specs.Overs.{HasOver}
 
+-- no bound is raised to 2^64 in what is read whole
+abbrev pub NoOver : List ℕ → Type 0
+NoOver text = (left : ℕ) → HasOver text left → ⊥
+
 -- the first byte at which no reading goes on, or the end
-pub record HasBadByte (text : List ℕ) (at : ℕ) : Type 0 where
+pub record StopsByte (text : List ℕ) (at : ℕ) : Type 0 where
   pub within : at ≤ length text
   pub first : first_fault start text ≡ Some (stop.Byte (length text - at))
 
--- a number of 2^64 or more, or one that a limit raises to it
-pub record HasLargeNumber (text : List ℕ) (at : ℕ) : Type 0 where
+-- the first number of 2^64 or more, where all before it goes on
+pub record StopsNumber (text : List ℕ) (at : ℕ) : Type 0 where
   pub within : at ≤ length text
-  pub large : (first_fault start text ≡ Some (stop.Number (length text - at))) ⊎ HasOver text (length text - at)
+  pub first : first_fault start text ≡ Some (stop.Number (length text - at))
+
+-- the part of a version that a bound raises to 2^64
+pub record StopsOver (text : List ℕ) (at : ℕ) : Type 0 where
+  pub within : at ≤ length text
+  pub raised : HasOver text (length text - at)
+
+-- a wrong byte, and no bound is raised before it
+pub record HasBadByte (text : List ℕ) (at : ℕ) : Type 0 where
+  pub byte : StopsByte text at
+  pub fit : NoOver text
+
+-- a number of 2^64 or more, and no bound is raised before it; or the part that one raises
+abbrev pub HasLargeNumber : List ℕ → ℕ → Type 0
+HasLargeNumber text at = (StopsNumber text at × NoOver text) ⊎ StopsOver text at
 
 -- ranges of more than 1,024 comparators
 pub record HasMany (text : List ℕ) : Type 0 where

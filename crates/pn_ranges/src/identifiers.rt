@@ -1,9 +1,10 @@
 // Pre-releases and builds: identifiers joined by dots.
-ghost use Rattle.std.specs.Prelude.{◌≡◌, ◌==◌, ◌&&◌, ℕ, [], ◌∷◌, List, Some, IfOk, IfErr, true, false};
+ghost use Rattle.std.specs.Prelude.{◌≡◌, ◌≤◌, ◌==◌, ◌&&◌, ℕ, [], ◌∷◌, List, length, Some, IfOk, IfErr, true, false};
 ghost use Rattle.semver.specs.Grammar.{is_build_identifier, is_identifier_byte, is_pre_identifier};
-ghost use Rattle.pn_ranges.specs.Bytes.{behind, is_digit, is_word, starts_with};
+ghost use Rattle.pn_ranges.specs.Bytes.{behind, is_body, is_digit, is_word, starts_with};
 ghost use Rattle.pn_ranges.specs.Grammar.{AreIdentifiers, Begins, IsTail, Spanned};
 ghost use Rattle.pn_ranges.specs.Places.{Turn, build, fault_after, first_fault, hyphen, plus, pre, whole};
+ghost use Rattle.pn_ranges.specs.Reading.{left_of};
 
 use crate::fault::Stop;
 use crate::part::{is_digit, next};
@@ -72,6 +73,7 @@ pub(crate) fn pre_identifier(text: &[u8]) -> Result<&[u8], Stop>
     ensures goes { IfOk result (λ r. (e : Turn) → first_fault (hyphen e) text.now
         ≡ first_fault (pre e) r.now) }
     ensures stops { IfErr result (λ s. (e : Turn) → first_fault (hyphen e) text.now ≡ Some s) }
+    ensures inside { IfErr result (λ s. length (behind is_body text.now) ≤ left_of s) }
 {
     let Some((b, rest)) = next(text) else {
         return Err(Stop::Byte(0));
@@ -96,6 +98,7 @@ pub(crate) fn build_identifier(text: &[u8]) -> Result<&[u8], Stop>
     ensures goes { IfOk result (λ r. (e : Turn) → first_fault (plus e) text.now
         ≡ first_fault (build e) r.now) }
     ensures stops { IfErr result (λ s. (e : Turn) → first_fault (plus e) text.now ≡ Some s) }
+    ensures inside { IfErr result (λ s. length (behind is_body text.now) ≤ left_of s) }
 {
     let Some((b, rest)) = next(text) else {
         return Err(Stop::Byte(0));

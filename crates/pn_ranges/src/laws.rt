@@ -1,6 +1,7 @@
 // Laws of ranges in the subject's own words. The definitions by which `Range` reads and holds obey them.
 ghost use Rattle.pn_ranges.specs.Laws.{CaretLaw, HyphenLaw, PreLaw, UnionLaw};
 ghost use Rattle.pn_ranges.specs.PlaceLaw.{PlaceLaw};
+ghost use Rattle.pn_ranges.specs.RefusalLaw.{RefusalLaw};
 
 /// A caret of a full version without pre-release holds exactly the releases that aren't below it and whose left-most
 /// number that isn't zero is the same.
@@ -23,9 +24,15 @@ pub fn pre_law()
     ensures { PreLaw }
 {}
 
-/// The place of a wrong byte is the first at which no reading goes on: the bytes before it begin some text of the
-/// grammar, with that byte they begin none, and where the place is the length the text ends too early. A number that is
-/// too large is named where it stands, or where a limit raises it.
+/// A wrong byte stands at the first place where no reading goes on: the bytes before it begin some text of the grammar,
+/// with that byte they begin none, and where the place is the length the text ends too early. A number that is too
+/// large stands behind bytes that begin some text with its first digit.
 pub fn place_law()
     ensures { PlaceLaw }
+{}
+
+/// Want of memory aside, a text is refused for at most one fault and place, and for none where it spells ranges. A bound
+/// that would reach 2^64, where all before it is read whole, stands before a wrong byte or number.
+pub fn refusal_law()
+    ensures { RefusalLaw }
 {}

@@ -17,5 +17,5 @@ mod tail;
 mod tests;
 
 pub use fault::RangeFault;
-pub use laws::{caret_law, hyphen_law, place_law, pre_law, union_law};
+pub use laws::{caret_law, hyphen_law, place_law, pre_law, refusal_law, union_law};
 pub use set::Range;

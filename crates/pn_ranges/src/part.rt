@@ -1,8 +1,9 @@
 // The parts of a version: numbers and wildcards.
 ghost use Rattle.std.specs.Prelude.{◌≡◌, ◌==◌, ◌≤◌, ◌<◌, ◌^◌, ◌*◌, ◌+◌, ◌-◌, ℕ, suc, length, [], ◌∷◌, MatchOption, Some, IfOk, IfErr, IfSome, IfNone, true, false};
-ghost use Rattle.pn_ranges.specs.Bytes.{behind, is_digit, is_lead, is_space, is_wild, number_at, starts_with};
+ghost use Rattle.pn_ranges.specs.Bytes.{behind, is_body, is_digit, is_lead, is_space, is_wild, number_at, starts_with};
 ghost use Rattle.pn_ranges.specs.Grammar.{Begins, IsPart};
 ghost use Rattle.pn_ranges.specs.Places.{Turn, dot, whole, first_fault};
+ghost use Rattle.pn_ranges.specs.Reading.{left_of};
 
 use crate::fault::Stop;
 
@@ -122,6 +123,7 @@ pub(crate) fn part(text: &[u8]) -> Result<(Option<u64>, &[u8]), Stop>
         ≡ first_fault (whole e (suc k)) r.1.now) }
     ensures stops { IfErr result (λ s. (e : Turn) (k : ℕ) → first_fault (dot e k) text.now
         ≡ Some s) }
+    ensures inside { IfErr result (λ s. length (behind is_body text.now) ≤ left_of s) }
 {
     let Some((b, rest)) = next(text) else {
         return Err(Stop::Byte(0));

@@ -1,10 +1,13 @@
 // Partial versions: one to three parts, of which each may be a wildcard.
-ghost use Rattle.std.specs.Prelude.{◌≡◌, ◌<◌, length, IfOk, IfErr, Some};
+ghost use Rattle.std.specs.Prelude.{◌≡◌, ◌<◌, ◌≤◌, length, IfOk, IfErr, OnErr, Some, true};
+ghost use Rattle.pn_ranges.specs.Bytes.{behind, is_body, starts_with};
 ghost use Rattle.pn_ranges.specs.Edges.{left_at, named_by};
 ghost use Rattle.pn_ranges.specs.Grammar.{Begins, IsEnd, IsPartial};
 ghost use Rattle.pn_ranges.specs.Overs.{PartsAt};
 ghost use Rattle.pn_ranges.specs.Places.{Turn, dot, fault_after, first_fault, lead};
+ghost use Rattle.pn_ranges.specs.Reading.{left_of};
 ghost use Rattle.pn_ranges.specs.Table.{named};
+ghost use Rattle.pn_ranges.specs.Unread.{NoEnd};
 
 use crate::fault::Stop;
 use crate::part::{behind_leads, part, strip};
@@ -31,6 +34,7 @@ fn parts(text: &[u8]) -> Result<(Partial<'_>, &[u8]), Stop>
     ensures goes { IfOk result (λ r. (e : Turn) → first_fault (dot e 0) text.now
         ≡ fault_after e r.1.now) }
     ensures stops { IfErr result (λ s. (e : Turn) → first_fault (dot e 0) text.now ≡ Some s) }
+    ensures inside { IfErr result (λ s. length (behind is_body text.now) ≤ left_of s) }
 {
     let (major, after_major) = part(text)?;
     let mut read = Partial {
@@ -68,6 +72,8 @@ pub(crate) fn end(text: &[u8]) -> Result<(Partial<'_>, &[u8]), Stop>
     ensures goes { IfOk result (λ r. (e : Turn) → first_fault (lead e) text.now
         ≡ fault_after e r.1.now) }
     ensures stops { IfErr result (λ s. (e : Turn) → first_fault (lead e) text.now ≡ Some s) }
+    ensures whole { IfOk result (λ r. starts_with is_body r.1.now ≡ true → NoEnd text.now) }
+    ensures none { OnErr result (NoEnd text.now) }
 {
     let after = behind_leads(text);
     let (read, rest) = parts(after)?;

@@ -1,13 +1,13 @@
 // Ranges: comparators or `A - B`.
-ghost use Rattle.std.specs.Prelude.{◌≡◌, ◌==◌, ◌&&◌, ◌≤◌, ◌<◌, ◌+◌, ◌⊎◌, ℕ, List, [], ◌∷◌, ◌++◌, length, IfOk, IfErr, OnOk, MatchOption, IsTrue, Some, None, true, false};
-ghost use Rattle.pn_ranges.specs.Bytes.{behind, is_space, starts_with};
+ghost use Rattle.std.specs.Prelude.{◌≡◌, ◌==◌, ◌&&◌, ◌≤◌, ◌<◌, ◌+◌, ◌⊎◌, ℕ, List, [], ◌∷◌, ◌++◌, length, IfOk, IfErr, OnErr, OnOk, MatchOption, IsTrue, Some, None, true, false};
+ghost use Rattle.pn_ranges.specs.Bytes.{behind, is_body, is_space, starts_with};
 ghost use Rattle.pn_ranges.specs.Edges.{HasPre, IsRaised, left_at, named_by};
 ghost use Rattle.pn_ranges.specs.Grammar.{Begins, IsEnd};
-ghost use Rattle.pn_ranges.specs.Overs.{HasOver};
+ghost use Rattle.pn_ranges.specs.Overs.{OverLater, OverRange, OverUpper};
 ghost use Rattle.pn_ranges.specs.Places.{Turn, after, closed, dash, fault_after, fault_comparator, first_fault, gap, start, turn_of, upper};
 ghost use Rattle.pn_ranges.specs.Reading.{ComparatorsAt, HyphenAt, LowerAt, RangeAt, SpacedAt, Stops, UpperAt};
 ghost use Rattle.pn_ranges.specs.Table.{all_fit, limits, raised, upper_limits, upper_raised};
-ghost use Rattle.pn_ranges.specs.Unread.{NoLater, NoRanges, NoUpper, ends_range};
+ghost use Rattle.pn_ranges.specs.Unread.{NeverTo, NoCompared, NoLater, NoRest, NoUpper, RangeTo, ends_range};
 
 use crate::bound::{Bound, push_edges};
 use crate::comparator::{Comparator, Sign, comparator_at};
@@ -32,6 +32,7 @@ fn behind_gap(text: &[u8]) -> Result<&[u8], Stop>
     ensures apart { IfOk result (λ r. starts_with is_space text.now ≡ false → ends_range r.now ≡ true) }
     ensures goes { IfOk result (λ r. (e : Turn) → fault_after e text.now ≡ first_fault (after e) r.now) }
     ensures stops { IfErr result (λ s. (e : Turn) → fault_after e text.now ≡ Some s) }
+    ensures none { OnErr result (starts_with is_body text.now ≡ true) }
 {
     if starts_with_space(text) {
         return Ok(behind_spaces(text));
@@ -49,12 +50,13 @@ fn spaced_at(text: &[u8]) -> Result<(Comparator<'_>, &[u8]), Stop>
     ensures pre { IfOk result (λ r. HasPre (named_by r.0.partial)) }
     ensures spaces { IfOk result (λ r. starts_with is_space r.1.now ≡ false) }
     ensures over { IfOk result (λ r. all_fit (limits r.0.sign (named_by r.0.partial)) ≡ false
-        → HasOver text.now (left_at (raised r.0.sign (named_by r.0.partial)) r.0.partial)) }
+        → OverLater text.now (left_at (raised r.0.sign (named_by r.0.partial)) r.0.partial)) }
     ensures shorter { IfOk result (λ r. length r.1.now < length text.now) }
     ensures goes { IfOk result (λ r. (e : Turn) → starts_with is_space text.now ≡ false
         → fault_comparator e text.now ≡ first_fault (after (turn_of r.0.plain e)) r.1.now) }
     ensures stops { IfErr result (λ s. (e : Turn) → starts_with is_space text.now ≡ false
         → fault_comparator e text.now ≡ Some s) }
+    ensures none { OnErr result (NoCompared text.now) }
 {
     let (comparator, behind) = comparator_at(text)?;
     let rest = behind_gap(behind)?;
@@ -67,9 +69,10 @@ fn upper_at(text: &[u8]) -> Result<(Partial<'_>, &[u8]), Stop>
     ensures pre { IfOk result (λ r. HasPre (named_by r.0)) }
     ensures spaces { IfOk result (λ r. starts_with is_space r.1.now ≡ false) }
     ensures over { IfOk result (λ r. all_fit (upper_limits (named_by r.0)) ≡ false
-        → HasOver text.now (left_at (upper_raised (named_by r.0)) r.0)) }
+        → OverUpper text.now (left_at (upper_raised (named_by r.0)) r.0)) }
     ensures goes { IfOk result (λ r. first_fault dash text.now ≡ first_fault closed r.1.now) }
     ensures stops { IfErr result (λ s. first_fault dash text.now ≡ Some s) }
+    ensures none { OnErr result (NoUpper text.now) }
 {
     if !starts_with_space(text) {
         return Err(Stop::Byte(text.len()));
@@ -110,7 +113,7 @@ fn hyphen_at<'a>(
     ensures ends { IfOk result (λ r. ends_range r.now ≡ true) }
     ensures spaces { IfOk result (λ r. starts_with is_space r.now ≡ false) }
     ensures goes { IfOk result (λ r. first_fault dash text.now ≡ first_fault closed r.now) }
-    ensures stops { IfErr result (Stops (NoUpper text.now) (first_fault dash text.now) text.now) }
+    ensures stops { IfErr result (Stops (OverUpper text.now) (NoRest text.now) (first_fault dash text.now)) }
 {
     let (high, rest) = upper_at(text)?;
     let edges = hyphen_edges(low, &high)?;
@@ -128,11 +131,11 @@ fn next_at<'a>(alloc: Global, text: &'a [u8], bounds: &mut Vec<Bound>) -> Result
     ensures read { IfOk result (λ r. (whole : List ℕ) (k : ℕ) → ComparatorsAt whole k bounds.old.items text.now
         → ComparatorsAt whole (k + 1) bounds.new.items r.now) }
     ensures spaces { IfOk result (λ r. starts_with is_space r.now ≡ false) }
-    ensures part { IfOk result (λ r. (front : List ℕ) × (text.now ≡ front ++ r.now)) }
     ensures shorter { IfOk result (λ r. length r.now < length text.now) }
+    ensures over { IfOk result (λ r. (left : ℕ) → OverLater r.now left → OverLater text.now left) }
     ensures none { IfOk result (λ r. NoLater r.now → NoLater text.now) }
     ensures goes { IfOk result (λ r. first_fault (gap false) text.now ≡ first_fault (gap false) r.now) }
-    ensures stops { IfErr result (Stops (NoLater text.now) (first_fault (gap false) text.now) text.now) }
+    ensures stops { IfErr result (Stops (OverLater text.now) (NoLater text.now) (first_fault (gap false) text.now)) }
 {
     let (comparator, rest) = spaced_at(text)?;
     push_comparator(alloc, bounds, &comparator)?;
@@ -152,7 +155,7 @@ fn later_at<'a>(
     ensures spaces { IfOk result (λ r. starts_with is_space r.1.now ≡ false) }
     ensures few { IfOk result (λ r. r.0 + length r.1.now ≤ length text.now) }
     ensures goes { IfOk result (λ r. first_fault (gap false) text.now ≡ first_fault closed r.1.now) }
-    ensures stops { IfErr result (Stops (NoLater text.now) (first_fault (gap false) text.now) text.now) }
+    ensures stops { IfErr result (Stops (OverLater text.now) (NoLater text.now) (first_fault (gap false) text.now)) }
 {
     let mut count = 0;
     let mut rest = text;
@@ -183,7 +186,7 @@ pub(crate) fn range_at<'a>(
     ensures ends { IfOk result (λ r. ends_range r.1.now ≡ true) }
     ensures few { IfOk result (λ r. r.0 + length r.1.now ≤ length text.now) }
     ensures goes { IfOk result (λ r. first_fault start text.now ≡ first_fault closed r.1.now) }
-    ensures stops { IfErr result (Stops (NoRanges text.now) (first_fault start text.now) text.now) }
+    ensures stops { IfErr result (Stops (OverRange text.now) (NeverTo RangeTo text.now) (first_fault start text.now)) }
 {
     if ends_range(text) {
         push_edges(alloc, bounds, &any_edges(Sign::Exact))?;

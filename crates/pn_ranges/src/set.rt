@@ -3,10 +3,11 @@ ghost use Rattle.std.specs.Prelude.{◌≡◌, ◌≢◌, ◌≤◌, ◌+◌, �
 ghost use Rattle.std.specs.List.{list_any};
 ghost use Rattle.pn_ranges.specs.Grammar.{AreRanges, Spells};
 ghost use Rattle.pn_ranges.specs.Limits.{Limit, meets_all, satisfies};
+ghost use Rattle.pn_ranges.specs.Overs.{HasOver};
 ghost use Rattle.pn_ranges.specs.Places.{closed, first_fault, start};
 ghost use Rattle.pn_ranges.specs.Reading.{SpacedRange, Stops};
-ghost use Rattle.pn_ranges.specs.Refusals.{IsLeftOf, RangeRefused, refusal_of};
-ghost use Rattle.pn_ranges.specs.Unread.{NoRanges, ends_range};
+ghost use Rattle.pn_ranges.specs.Refusals.{IsLeftOf, NoOver, RangeRefused, refusal_of};
+ghost use Rattle.pn_ranges.specs.Unread.{ends_range};
 
 use crate::bound::{Bound, meets_all, push_edges};
 use crate::comparator::Sign;
@@ -44,7 +45,7 @@ fn range_into<'a>(
     ensures ends { IfOk result (λ r. ends_range r.1.now ≡ true) }
     ensures few { IfOk result (λ r. r.0 + length r.1.now ≤ length text.now) }
     ensures goes { IfOk result (λ r. first_fault start text.now ≡ first_fault closed r.1.now) }
-    ensures stops { IfErr result (Stops (NoRanges text.now) (first_fault start text.now) text.now) }
+    ensures stops { IfErr result (Stops (HasOver text.now) (NoOver text.now) (first_fault start text.now)) }
 {
     let mut bounds = Vec::new(alloc);
     let (count, rest) = range_at(alloc, behind_spaces(text), &mut bounds)?;
@@ -57,7 +58,7 @@ fn ranges_in(alloc: Global, text: &[u8], ranges: &mut Vec<Vec<Bound>>) -> Result
     requires { ranges.old.items ≡ [] }
     ensures read { IfOk result (λ k. AreRanges text.now k (map (λ v. v.items) ranges.new.items)) }
     ensures right { OnOk result (first_fault start text.now ≡ None) }
-    ensures stops { IfErr result (Stops (NoRanges text.now) (first_fault start text.now) text.now) }
+    ensures stops { IfErr result (Stops (HasOver text.now) (NoOver text.now) (first_fault start text.now)) }
 {
     let mut count = 0;
     let mut rest = text;

@@ -1,9 +1,10 @@
 // What may stand behind three parts: a pre-release and a build.
 ghost use Rattle.std.specs.Prelude.{◌≡◌, ◌≤◌, length, IfOk, IfErr, Some, false};
 ghost use Rattle.semver.specs.Grammar.{is_build_identifier, is_pre_identifier};
-ghost use Rattle.pn_ranges.specs.Bytes.{is_word, starts_with};
+ghost use Rattle.pn_ranges.specs.Bytes.{behind, is_body, is_word, starts_with};
 ghost use Rattle.pn_ranges.specs.Grammar.{AreIdentifiers, Begins, Fronted, IsBuild, IsTail};
 ghost use Rattle.pn_ranges.specs.Places.{Turn, build, fault_after, fault_build, first_fault, hyphen, plus, pre, whole};
+ghost use Rattle.pn_ranges.specs.Reading.{left_of};
 
 use crate::fault::Stop;
 use crate::identifiers::{build_identifier, pre_identifier};
@@ -16,6 +17,7 @@ fn behind_pre(text: &[u8]) -> Result<&[u8], Stop>
     ensures goes { IfOk result (λ r. (e : Turn) → first_fault (hyphen e) text.now
         ≡ first_fault (pre e) r.now) }
     ensures stops { IfErr result (λ s. (e : Turn) → first_fault (hyphen e) text.now ≡ Some s) }
+    ensures inside { IfErr result (λ s. length (behind is_body text.now) ≤ left_of s) }
 {
     let mut rest = pre_identifier(text)?;
     'dots: while let Some((b, behind)) = next(rest) {
@@ -34,6 +36,7 @@ fn behind_identifiers(text: &[u8]) -> Result<&[u8], Stop>
     ensures goes { IfOk result (λ r. (e : Turn) → first_fault (plus e) text.now
         ≡ first_fault (build e) r.now) }
     ensures stops { IfErr result (λ s. (e : Turn) → first_fault (plus e) text.now ≡ Some s) }
+    ensures inside { IfErr result (λ s. length (behind is_body text.now) ≤ left_of s) }
 {
     let mut rest = build_identifier(text)?;
     'dots: while let Some((b, behind)) = next(rest) {
@@ -50,6 +53,7 @@ fn behind_build(text: &[u8]) -> Result<&[u8], Stop>
     ensures read { IfOk result (λ r. Fronted IsBuild text.now r.now) }
     ensures goes { IfOk result (λ r. (e : Turn) → fault_build e text.now ≡ fault_after e r.now) }
     ensures stops { IfErr result (λ s. (e : Turn) → fault_build e text.now ≡ Some s) }
+    ensures inside { IfErr result (λ s. length (behind is_body text.now) ≤ left_of s) }
 {
     let Some((b, behind)) = next(text) else {
         return Ok(text);
@@ -68,6 +72,7 @@ pub(crate) fn tail(text: &[u8]) -> Result<(&[u8], &[u8]), Stop>
     ensures goes { IfOk result (λ r. (e : Turn) → first_fault (whole e 3) text.now
         ≡ fault_after e r.1.now) }
     ensures stops { IfErr result (λ s. (e : Turn) → first_fault (whole e 3) text.now ≡ Some s) }
+    ensures inside { IfErr result (λ s. length (behind is_body text.now) ≤ left_of s) }
 {
     let Some((b, behind)) = next(text) else {
         return Ok((text, text));

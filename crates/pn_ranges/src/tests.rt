@@ -22,7 +22,7 @@ fn fault(alloc: Global, range: &str) -> Option<RangeFault> {
 }
 
 // A range, versions that it holds, and versions that it doesn't hold, with `;` between.
-const ROWS: [&str; 62] = [
+const ROWS: [&str; 63] = [
     ";0.0.0 1.2.3;1.2.3-a",
     "*;0.0.0 9.9.9;0.0.0-0 1.2.3-a",
     "x;1.2.3;1.2.3-a",
@@ -85,6 +85,7 @@ const ROWS: [&str; 62] = [
     "1.2.3-0a+b;1.2.3-0a;1.2.3-0",
     "18446744073709551615.0.0;18446744073709551615.0.0;1.0.0",
     "<18446744073709551615;18446744073709551614.9.9;18446744073709551615.0.0",
+    "18446744073709551615 - x;18446744073709551615.0.0;18446744073709551614.0.0",
 ];
 
 // Whether the range answers so for each of the versions.
@@ -116,7 +117,7 @@ fn rows_of_the_table(rt: HostRuntime) -> Result<(), Fail> {
     Ok(())
 }
 
-const REFUSED: [(&str, RangeFault); 39] = [
+const REFUSED: [(&str, RangeFault); 55] = [
     (">", RangeFault::BadByte(1)),
     (">  ", RangeFault::BadByte(3)),
     (">  <1", RangeFault::BadByte(3)),
@@ -156,6 +157,31 @@ const REFUSED: [(&str, RangeFault); 39] = [
     ("^1 ~2.18446744073709551615", RangeFault::NumberTooLarge(6)),
     (">18446744073709551615 !", RangeFault::NumberTooLarge(1)),
     ("18446744073709551615!", RangeFault::BadByte(20)),
+    ("^18446744073709551615!", RangeFault::BadByte(21)),
+    ("18446744073709551615 !", RangeFault::NumberTooLarge(0)),
+    (">=18446744073709551615 !", RangeFault::BadByte(23)),
+    ("! ^18446744073709551615", RangeFault::BadByte(0)),
+    ("1|^18446744073709551615", RangeFault::BadByte(2)),
+    ("^18446744073709551615|1", RangeFault::NumberTooLarge(1)),
+    ("^18446744073709551615 - 1", RangeFault::NumberTooLarge(1)),
+    ("1 18446744073709551615 - 2", RangeFault::NumberTooLarge(2)),
+    ("18446744073709551615 -", RangeFault::BadByte(22)),
+    ("18446744073709551615 - !", RangeFault::BadByte(23)),
+    ("1 - 18446744073709551615!", RangeFault::BadByte(24)),
+    ("1 - 18446744073709551615 !", RangeFault::NumberTooLarge(4)),
+    (
+        "1 || ~2.18446744073709551615 3 -",
+        RangeFault::NumberTooLarge(8),
+    ),
+    (
+        "~0.18446744073709551615 18446744073709551616",
+        RangeFault::NumberTooLarge(3),
+    ),
+    (
+        "18446744073709551616 ^18446744073709551615",
+        RangeFault::NumberTooLarge(0),
+    ),
+    ("^0.0.18446744073709551615", RangeFault::NumberTooLarge(5)),
 ];
 
 #[test]

@@ -1,11 +1,11 @@
 -- Lemmas on calls before which steps of other installers came.
-use Rattle.std.proofs.Common.{◌≡◌, ℕ, [], ◌∷◌, ◌++◌, refl, sym, ap, ◌∙◌, subst, append-nil, append_assoc, ◌⊎◌, inl, inr, Some, Ok, Err}
-use Rattle.std.specs.Prelude.{Option, Result, OnOk, OnErr, IfOk}
+use Rattle.std.proofs.Common.{◌≡◌, ℕ, [], ◌∷◌, ◌++◌, refl, sym, ap, ◌∙◌, subst, append-nil, append_assoc, inl, inr, Some, Ok, Err}
+use Rattle.std.specs.Prelude.{Option, Result, OnErr, IfOk}
 use Rattle.pn_text.specs.declared.fault.DevFault.{DevFault}
 use Rattle.pn_storecore.specs.declared.step.StoreStep.{StoreStep}
 use Rattle.pn_storecore.specs.World.{World, empty}
-use Rattle.pn_storecore.specs.Steps.{Event, Journal, world_after, world_of}
-use Rattle.pn_storecore.specs.Lawful.{IsLawful, AreLawful, AreOthers}
+use Rattle.pn_storecore.specs.Steps.{Journal, world_after, world_of}
+use Rattle.pn_storecore.specs.Lawful.{IsLawful, AreLawful}
 use Rattle.pn_storecore.specs.Calls.{Grows}
 use Rattle.pn_storecore.specs.Came.{OthersCame}
 use Rattle.pn_storecore.proofs.Journals.{after_both, lawful_both, others_both}
@@ -24,9 +24,6 @@ more_came me j k l first second = record {
   theirs = others_both me first.others second.others first.theirs second.theirs;
   came = second.came ∙ ap (λ (x : Journal). x ++ second.others) first.came ∙ append_assoc j first.others second.others;
 }
-
-pub one_came : (me who : ℕ) (s : StoreStep) (j k : Journal) → (who ≡ me → ⊥) → IsLawful who s (world_of j) → k ≡ j ++ (who, s) ∷ [] → OthersCame me j k
-one_came me who s j k apart lawful grew = record { others = (who, s) ∷ []; lawful = (lawful, tt); theirs = (apart, tt); came = grew }
 
 -- what a call asks is so when it comes to it
 pub asks_behind : (me : ℕ) (s : StoreStep) (j k : Journal) → OthersCame me j k → IsLawful me s (world_of j) → IsLawful me s (world_of k)

@@ -1,83 +1,71 @@
 -- What a lawful step changes at addresses.
-use Rattle.std.proofs.Common.{◌≡◌, ◌≢◌, ℕ, List, true, refl, sym, ap, ◌∙◌, subst, ◌⊎◌, inl, inr, Some, None}
-use Rattle.std.specs.Prelude.{Option, ◌==◌}
-use Rattle.pn_digest.specs.Listing.{Names}
+use Rattle.std.proofs.Common.{◌≡◌, ℕ, List, true, refl, sym, ◌∙◌, subst, ◌⊎◌, inl, inr, Some}
+use Rattle.std.specs.Prelude.{◌==◌}
 use Rattle.pn_storecore.specs.declared.step.Place.TheVariants.{Files, Listings}
 use Rattle.pn_storecore.specs.declared.step.StoreStep.{StoreStep}
 use Rattle.pn_storecore.specs.declared.step.StoreStep.TheVariants.{Claim, Create, Append, Shard, PublishFile, PublishListing, DropTemp, Read, Discard}
-use Rattle.pn_storecore.specs.World.{Temp, Objects, World, Stands, content}
-use Rattle.pn_storecore.specs.Steps.{claimed, after}
+use Rattle.pn_storecore.specs.World.{Objects, World, Stands, content}
+use Rattle.pn_storecore.specs.Steps.{after}
 use Rattle.pn_storecore.specs.Lawful.{IsLawful}
-use Rattle.pn_storecore.specs.Sound.{IsStoredFile, IsStoredListing, IsSound}
+use Rattle.pn_storecore.specs.Stored.{IsStoredFile, IsStoredListing}
+use Rattle.pn_storecore.specs.Sound.{IsSound}
 use Rattle.pn_storecore.proofs.Keys.{at_address, or_right, none_some}
 
 -- at each address stands what stood, or other bytes that may stand there
 abbrev pub Changes : (List ℕ → List ℕ → Type 0) → Objects → Objects → Type 0
 Changes May old new = (at : List ℕ) → (new.bytes at ≡ old.bytes at) ⊎ ((now : List ℕ) × (new.bytes at ≡ Some now) × May at now)
 
-pub claimed_files : (who k : ℕ) (w : World) (o : Option Temp) → (claimed who k w o).files ≡ w.files
-claimed_files who k w None = refl
-claimed_files who k w (Some t) = refl
-
-pub claimed_listings : (who k : ℕ) (w : World) (o : Option Temp) → (claimed who k w o).listings ≡ w.listings
-claimed_listings who k w None = refl
-claimed_listings who k w (Some t) = refl
-
 pub files_change : (w : World) (who : ℕ) (s : StoreStep) → IsLawful who s w → Changes IsStoredFile w.files (after who s w).files
-files_change w who (Claim k) h at = inl (ap (λ o. o.bytes at) (claimed_files who k w (w.temps k)))
+files_change w who (Claim k) h at = inl refl
 files_change w who (Create k n) h at = inl refl
 files_change w who (Append k n more) h at = inl refl
 files_change w who (Shard Files first) h at = inl refl
 files_change w who (Shard Listings first) h at = inl refl
 files_change w who (PublishFile k n to) h at = elim (at_address w.files.bytes to (content w k n) at) [
-  | inl here ↦ inr (h.bytes, here.1 ∙ h.stands, record { addressed = h.addressed ∙ here.0; short = h.short })
+  | inl here ↦ inr (h.bytes, here.1 ∙ h.stands, record { addressed = h.stored.addressed ∙ here.0; short = h.stored.short })
   | inr other ↦ inl other.1
 ]
 files_change w who (PublishListing k n to) h at = inl refl
-files_change w who (DropTemp k None) h at = inl refl
-files_change w who (DropTemp k (Some n)) h at = inl refl
+files_change w who (DropTemp k n) h at = inl refl
 files_change w who Read h at = inl refl
 files_change w who (Discard what) h at = absurd h
 
-pub listings_change : (w : World) (who : ℕ) (s : StoreStep) → IsLawful who s w → Changes (IsStoredListing w) w.listings (after who s w).listings
-listings_change w who (Claim k) h at = inl (ap (λ o. o.bytes at) (claimed_listings who k w (w.temps k)))
+pub listings_change : (w : World) (who : ℕ) (s : StoreStep) → IsLawful who s w → Changes (IsStoredListing w.files) w.listings (after who s w).listings
+listings_change w who (Claim k) h at = inl refl
 listings_change w who (Create k n) h at = inl refl
 listings_change w who (Append k n more) h at = inl refl
 listings_change w who (Shard Files first) h at = inl refl
 listings_change w who (Shard Listings first) h at = inl refl
 listings_change w who (PublishFile k n to) h at = inl refl
 listings_change w who (PublishListing k n to) h at = elim (at_address w.listings.bytes to (content w k n) at) [
-  | inl here ↦ inr (h.bytes, here.1 ∙ h.stands, record { addressed = h.addressed ∙ here.0; text = h.text; named = h.named })
+  | inl here ↦ inr (h.bytes, here.1 ∙ h.stands, record { addressed = h.stored.addressed ∙ here.0; whole = h.stored.whole })
   | inr other ↦ inl other.1
 ]
-listings_change w who (DropTemp k None) h at = inl refl
-listings_change w who (DropTemp k (Some n)) h at = inl refl
+listings_change w who (DropTemp k n) h at = inl refl
 listings_change w who Read h at = inl refl
 listings_change w who (Discard what) h at = absurd h
 
 pub file_shards : (w : World) (who : ℕ) (s : StoreStep) → IsLawful who s w → (first : ℕ) → w.files.shards first ≡ true → (after who s w).files.shards first ≡ true
-file_shards w who (Claim k) h first e = ap (λ o. o.shards first) (claimed_files who k w (w.temps k)) ∙ e
+file_shards w who (Claim k) h first e = e
 file_shards w who (Create k n) h first e = e
 file_shards w who (Append k n more) h first e = e
 file_shards w who (Shard Files new) h first e = or_right (new == first) _ e
 file_shards w who (Shard Listings new) h first e = e
 file_shards w who (PublishFile k n to) h first e = e
 file_shards w who (PublishListing k n to) h first e = e
-file_shards w who (DropTemp k None) h first e = e
-file_shards w who (DropTemp k (Some n)) h first e = e
+file_shards w who (DropTemp k n) h first e = e
 file_shards w who Read h first e = e
 file_shards w who (Discard what) h first e = absurd h
 
 pub listing_shards : (w : World) (who : ℕ) (s : StoreStep) → IsLawful who s w → (first : ℕ) → w.listings.shards first ≡ true → (after who s w).listings.shards first ≡ true
-listing_shards w who (Claim k) h first e = ap (λ o. o.shards first) (claimed_listings who k w (w.temps k)) ∙ e
+listing_shards w who (Claim k) h first e = e
 listing_shards w who (Create k n) h first e = e
 listing_shards w who (Append k n more) h first e = e
 listing_shards w who (Shard Files new) h first e = e
 listing_shards w who (Shard Listings new) h first e = or_right (new == first) _ e
 listing_shards w who (PublishFile k n to) h first e = e
 listing_shards w who (PublishListing k n to) h first e = e
-listing_shards w who (DropTemp k None) h first e = e
-listing_shards w who (DropTemp k (Some n)) h first e = e
+listing_shards w who (DropTemp k n) h first e = e
 listing_shards w who Read h first e = e
 listing_shards w who (Discard what) h first e = absurd h
 
@@ -97,13 +85,15 @@ sound_step w who s sound h = record {
   ];
   listings = λ at bytes e. elim (listings_change w who s h at) [
     | inl same ↦ kept at bytes (sound.listings at bytes (sym same ∙ e))
-    | inr now ↦ let one : now.0 ≡ bytes = cc (now.1, e) in subst (IsStoredListing (after who s w) at) one (kept at now.0 now.2)
+    | inr now ↦ let one : now.0 ≡ bytes = cc (now.1, e) in subst (IsStoredListing (after who s w).files at) one (kept at now.0 now.2)
   ];
   owners = λ k a b p q. cc (p, q);
 } where
-  kept : (at bytes : List ℕ) → IsStoredListing w at bytes → IsStoredListing (after who s w) at bytes
+  kept : (at bytes : List ℕ) → IsStoredListing w.files at bytes → IsStoredListing (after who s w).files at bytes
   kept at bytes l = record {
     addressed = l.addressed;
-    text = l.text;
-    named = λ file names. stays w.files (after who s w).files (files_change w who s h) file (l.named file names);
+    whole = record {
+      text = l.whole.text;
+      named = λ file names. stays w.files (after who s w).files (files_change w who s h) file (l.whole.named file names);
+    };
   }

@@ -1,8 +1,8 @@
 -- Lemmas on journals that grow.
-use Rattle.std.proofs.Common.{◌≡◌, ℕ, [], ◌∷◌, ◌++◌, refl, sym, ap, ◌∙◌, subst, ◌⊎◌}
+use Rattle.std.proofs.Common.{◌≡◌, ℕ, [], ◌∷◌, ◌++◌, refl, sym, ap, ◌∙◌, ◌⊎◌}
 use Rattle.pn_storecore.specs.declared.step.StoreStep.{StoreStep}
 use Rattle.pn_storecore.specs.World.{World, empty}
-use Rattle.pn_storecore.specs.Steps.{Event, Journal, after, world_after, world_of}
+use Rattle.pn_storecore.specs.Steps.{Journal, after, world_after, world_of}
 use Rattle.pn_storecore.specs.Lawful.{IsLawful, AreLawful, AreOthers, IsDiscard, AreLawfulOrDiscards}
 
 pub after_both : (w : World) (xs ys : Journal) → world_after w (xs ++ ys) ≡ world_after (world_after w xs) ys

@@ -8,3 +8,7 @@ pub mod KeyLists
 pub mod Own
 pub mod Standing
 pub mod Behind
+pub mod Grown
+pub mod Holding
+pub mod Leaving
+pub mod Scripts

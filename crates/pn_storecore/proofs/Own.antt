@@ -1,5 +1,5 @@
 -- Lemmas on calls before which no other installer made a step.
-use Rattle.std.proofs.Common.{◌≡◌, ℕ, [], ◌∷◌, ◌++◌, sym, ap, ◌∙◌, append-nil, inl, refl, Some, Ok, Err}
+use Rattle.std.proofs.Common.{◌≡◌, ℕ, [], ◌∷◌, ◌++◌, sym, ap, ◌∙◌, append-nil, inl, Some, Ok, Err}
 use Rattle.std.specs.Prelude.{Result, OnOk, OnErr, IfOk}
 use Rattle.pn_text.specs.declared.fault.DevFault.{DevFault}
 use Rattle.pn_storecore.specs.declared.step.StoreStep.{StoreStep}

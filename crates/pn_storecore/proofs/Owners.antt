@@ -1,20 +1,20 @@
 -- Whose the numbers are after lawful steps, and which steps stay lawful.
-use Rattle.std.proofs.Common.{◌≡◌, ◌≢◌, ℕ, List, [], ◌∷◌, true, refl, sym, ap, ◌∙◌, subst, ◌⊎◌, inl, inr, Some, None}
+use Rattle.std.proofs.Common.{◌≡◌, ◌≢◌, ℕ, List, [], ◌∷◌, true, refl, sym, ap, ◌∙◌, inl, inr, Some, None}
 use Rattle.std.specs.Prelude.{Option}
 use Rattle.std.specs.Option.{option_map, option_and_then}
 use Rattle.std.specs.List.{AllByRecursion}
 use Rattle.pn_storecore.specs.declared.step.Place.TheVariants.{Files, Listings}
 use Rattle.pn_storecore.specs.declared.step.StoreStep.{StoreStep}
 use Rattle.pn_storecore.specs.declared.step.StoreStep.TheVariants.{Claim, Create, Append, Shard, PublishFile, PublishListing, DropTemp, Read, Discard}
-use Rattle.pn_storecore.specs.World.{Temp, World, owner_of, content, claimed_by, with_temp, with_file, with_content}
-use Rattle.pn_storecore.specs.Steps.{Event, Journal, claimed, after, world_after}
+use Rattle.pn_storecore.specs.World.{Temp, Temps, World, owner_of, content, claimed_by, with_temps, with_temp, with_file, with_content}
+use Rattle.pn_storecore.specs.Steps.{Event, Journal, claim_in, after, world_after}
 use Rattle.pn_storecore.specs.Lawful.{IsLawful, AreLawful, AreOthers}
 use Rattle.pn_storecore.specs.Laws.{OwnerLaw, PlaceLaw, dropping}
-use Rattle.pn_storecore.proofs.Keys.{at_number, none_some}
+use Rattle.pn_storecore.proofs.Keys.{at_number}
 use Rattle.pn_storecore.proofs.Changes.{file_shards, listing_shards}
 use Rattle.pn_storecore.proofs.Published.{files_stay}
 
-owns_none : (o : Option Temp) (me : ℕ) → option_map (λ (t : Temp). t.owner) o ≡ Some me → o ≢ None
+pub owns_none : (o : Option Temp) (me : ℕ) → option_map (λ (t : Temp). t.owner) o ≡ Some me → o ≢ None
 owns_none None me h = cc
 owns_none (Some t) me h = λ e. cc
 
@@ -25,7 +25,7 @@ other_number w k q who me t theirs mine apart = elim (at_number w.temps k t q) [
   | inr other ↦ other.1
 ]
 
-claim_keeps : (w : World) (who k q : ℕ) (o : Option Temp) → w.temps k ≡ o → w.temps q ≢ None → (claimed who k w o).temps q ≡ w.temps q
+pub claim_keeps : (w : World) (who k q : ℕ) (o : Option Temp) → w.temps k ≡ o → w.temps q ≢ None → claim_in who k w.temps o q ≡ w.temps q
 claim_keeps w who k q None free mine = elim (at_number w.temps k (Some (claimed_by who)) q) [
   | inl here ↦ absurd (mine (sym (ap w.temps here.0) ∙ free))
   | inr other ↦ other.1
@@ -88,23 +88,23 @@ undropped_keep : (w : World) (steps : Journal) (me q : ℕ) → owner_of w q ≡
 undropped_keep w [] me q mine h undropped = mine
 undropped_keep w (e ∷ es) me q mine h undropped = undropped_keep (after e.0 e.1 w) es me q (step_owner w e.0 me q e.1 mine h.0 undropped.0) h.1 undropped.1
 
-claim_taken : (w : World) (who k : ℕ) (o : Option Temp) → o ≢ None → claimed who k w o ≡ w
-claim_taken w who k None h = absurd (h refl)
-claim_taken w who k (Some t) h = refl
+claim_taken : (temps : Temps) (who k : ℕ) (o : Option Temp) → o ≢ None → claim_in who k temps o ≡ temps
+claim_taken temps who k None h = absurd (h refl)
+claim_taken temps who k (Some t) h = refl
 
 pub owners : OwnerLaw
 owners = record {
-  free = λ w who k free. ap (λ o. (claimed who k w o).temps k) free ∙ elim (at_number w.temps k (Some (claimed_by who)) k) [ inl here ↦ here.1 | inr other ↦ absurd (other.0 refl) ];
-  taken = λ w who k taken. claim_taken w who k (w.temps k) taken;
+  free = λ w who k free. ap (λ o. claim_in who k w.temps o k) free ∙ elim (at_number w.temps k (Some (claimed_by who)) k) [ inl here ↦ here.1 | inr other ↦ absurd (other.0 refl) ];
+  taken = λ w who k taken. ap (with_temps w) (claim_taken w.temps who k (w.temps k) taken);
   others = others_keep;
   undropped = undropped_keep;
 }
 
-shards_stay : (w : World) (steps : Journal) → AreLawful w steps → (first : ℕ) → w.files.shards first ≡ true → (world_after w steps).files.shards first ≡ true
+pub shards_stay : (w : World) (steps : Journal) → AreLawful w steps → (first : ℕ) → w.files.shards first ≡ true → (world_after w steps).files.shards first ≡ true
 shards_stay w [] h first e = e
 shards_stay w (s ∷ ss) h first e = shards_stay (after s.0 s.1 w) ss h.1 first (file_shards w s.0 s.1 h.0 first e)
 
-listing_shards_stay : (w : World) (steps : Journal) → AreLawful w steps → (first : ℕ) → w.listings.shards first ≡ true → (world_after w steps).listings.shards first ≡ true
+pub listing_shards_stay : (w : World) (steps : Journal) → AreLawful w steps → (first : ℕ) → w.listings.shards first ≡ true → (world_after w steps).listings.shards first ≡ true
 listing_shards_stay w [] h first e = e
 listing_shards_stay w (s ∷ ss) h first e = listing_shards_stay (after s.0 s.1 w) ss h.1 first (listing_shards w s.0 s.1 h.0 first e)
 
@@ -124,18 +124,18 @@ module _ (w : World) (others : Journal) (me : ℕ) (lawful : AreLawful w others)
     owned = owner_stays k h.owned;
     bytes = h.bytes;
     stands = content_stays k n h.owned ∙ h.stands;
-    short = h.short;
-    addressed = h.addressed;
+    stored = h.stored;
     shard = shards_stay w others lawful _ h.shard;
   }
   step_stays (PublishListing k n at) h = record {
     owned = owner_stays k h.owned;
     bytes = h.bytes;
     stands = content_stays k n h.owned ∙ h.stands;
-    addressed = h.addressed;
+    stored = record {
+      addressed = h.stored.addressed;
+      whole = record { text = h.stored.whole.text; named = λ file names. files_stay w others lawful file (h.stored.whole.named file names) };
+    };
     shard = listing_shards_stay w others lawful _ h.shard;
-    text = h.text;
-    named = λ file names. files_stay w others lawful file (h.named file names);
   }
   step_stays (DropTemp k n) h = record { owned = owner_stays k h.owned; bare = λ whole m. content_stays k m h.owned ∙ h.bare whole m }
   step_stays Read h = tt

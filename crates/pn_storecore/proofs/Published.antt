@@ -1,15 +1,12 @@
 -- What stands at addresses after lawful steps.
-use Rattle.std.proofs.Common.{◌≡◌, ◌≢◌, ℕ, zero, suc, List, [], ◌∷◌, take, true, refl, sym, ap, ◌∙◌, ◌⊎◌, inl, inr, Some, None}
-use Rattle.std.specs.Prelude.{Option}
+use Rattle.std.proofs.Common.{◌≡◌, ℕ, zero, suc, List, [], ◌∷◌, take, true, sym, ap, ◌∙◌, inl, inr, Some}
 use Rattle.std.specs.List.{AllByRecursion}
 use Rattle.sha2.specs.Sha512.{sha512}
-use Rattle.pn_digest.specs.Listing.{Names}
 use Rattle.pn_storecore.specs.World.{Objects, World, empty, Stands}
-use Rattle.pn_storecore.specs.Steps.{Event, Journal, after, world_after, world_of}
+use Rattle.pn_storecore.specs.Steps.{Event, Journal, after, world_after}
 use Rattle.pn_storecore.specs.Lawful.{AreLawful, IsDiscard, AreLawfulOrDiscards}
 use Rattle.pn_storecore.specs.Sound.{IsSound}
-use Rattle.pn_storecore.specs.Laws.{SoundLaw, PublishedLaw, IsAlone, KeepsObjects}
-use Rattle.pn_storecore.proofs.Keys.{none_some}
+use Rattle.pn_storecore.specs.Laws.{SoundLaw, PublishedLaw, KeepsObjects}
 use Rattle.pn_storecore.proofs.Changes.{Changes, files_change, listings_change, file_shards, listing_shards, stays, sound_step}
 
 sound_empty : IsSound empty
@@ -77,9 +74,13 @@ pub files_stay : (w : World) (steps : Journal) → AreLawful w steps → (at : L
 files_stay w [] h at stood = stood
 files_stay w (e ∷ es) h at stood = files_stay (after e.0 e.1 w) es h.1 at (stays w.files (after e.0 e.1 w).files (files_change w e.0 e.1 h.0) at stood)
 
+pub listings_stay : (w : World) (steps : Journal) → AreLawful w steps → (at : List ℕ) → Stands w.listings at → Stands (world_after w steps).listings at
+listings_stay w [] h at stood = stood
+listings_stay w (e ∷ es) h at stood = listings_stay (after e.0 e.1 w) es h.1 at (stays w.listings (after e.0 e.1 w).listings (listings_change w e.0 e.1 h.0) at stood)
+
 pub published : PublishedLaw
 published = record {
   files = keeps_files;
   listings = keeps_listings;
-  named = λ w steps is h at bytes file e names. files_stay w steps h file ((is.listings at bytes e).named file names);
+  named = λ w steps is h at bytes file e names. files_stay w steps h file ((is.listings at bytes e).whole.named file names);
 }

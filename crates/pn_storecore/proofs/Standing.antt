@@ -1,5 +1,5 @@
 -- Lemmas on the files that a listing names.
-use Rattle.std.proofs.Common.{◌≡◌, ◌≢◌, ℕ, ◌+◌, ◌<◌, ◌≤◌, List, Bool, Bor, true, false, nat_lt, length, refl, sym, ap, ◌∙◌, subst, Some, None, Ok, Err, arith, slice_index_or}
+use Rattle.std.proofs.Common.{◌≡◌, ◌≢◌, ℕ, ◌+◌, ◌<◌, List, Bool, Bor, true, false, nat_lt, length, refl, sym, ap, ◌∙◌, subst, Some, None, Ok, Err, arith, slice_index_or}
 use Rattle.std.specs.Prelude.{Option, Result, IfOk}
 use Rattle.std.specs.Option.{is_some, option_copied}
 use Rattle.std.specs.Bool.{Decides}
@@ -9,7 +9,7 @@ use Rattle.std.proofs.lemmas.List.{get_or_default}
 use Rattle.sha2.specs.Sha512.{sha512}
 use Rattle.pn_digest.specs.Listing.{Entry, IsListing, IsTextOf, ListingLaw, Names, listing_text}
 use Rattle.pn_storecore.specs.World.{Objects, World, Stands, owner_of, content, first_byte}
-use Rattle.pn_storecore.specs.Sound.{AllStand, IsWhole}
+use Rattle.pn_storecore.specs.Stored.{AllStand, IsWhole}
 use Rattle.pn_storecore.specs.Lawful.{CanPublishListing}
 
 pub copied_none : {X : Type 0} (r : Option (Bor X)) (b : Option X) → option_copied r ≡ b → is_some r ≡ false → b ≡ None
@@ -36,7 +36,7 @@ one_more o es i e is within some so_far k d under = elim (nat_lt k i) as (λ b. 
 
 -- the files that stand are those that the text names
 pub whole : (law : ListingLaw) (o : Objects) (bytes : List ℕ) (es : List Entry) (b : Bool) → IsListing es → bytes ≡ listing_text es → Decides b (AllStand o es) → Decides b (IsWhole o bytes)
-whole law o bytes es b listing is d = (λ h. ((es, text), λ file n. stands (d.0 h) file n), λ h. d.1 (λ k e within. h.1 (slice_index_or es k e).1 (named k e within))) where
+whole law o bytes es b listing is d = (λ h. record { text = (es, text); named = λ file n. stands (d.0 h) file n }, λ h. d.1 (λ k e within. h.named (slice_index_or es k e).1 (named k e within))) where
   text : IsTextOf es bytes
   text = record { listing = listing; is = is }
 
@@ -57,10 +57,10 @@ whole law o bytes es b listing is d = (λ h. ((es, text), λ file n. stands (d.0
 pub listing_decides : (who k n : ℕ) (at : List ℕ) (w : World) (bytes : List ℕ) (b : Bool) → owner_of w k ≡ Some who → w.listings.shards (first_byte at) ≡ true → content w k n ≡ Some bytes
     → Decides b ((sha512 bytes ≡ at) × IsWhole w.files bytes) → Decides b (CanPublishListing who k n at w)
 listing_decides who k n at w bytes b owned shard stands d = (
-  λ y. let h = d.0 y in record { owned = owned; bytes = bytes; stands = stands; addressed = h.0; shard = shard; text = h.1.0; named = h.1.1 },
+  λ y. let h = d.0 y in record { owned = owned; bytes = bytes; stands = stands; stored = record { addressed = h.0; whole = h.1 }; shard = shard },
   λ can.
       let same : can.bytes ≡ bytes = cc (can.stands, stands) in
-      d.1 (subst (λ x. sha512 x ≡ at) same can.addressed, subst (IsWhole w.files) same (can.text, can.named)),
+      d.1 (subst (λ x. sha512 x ≡ at) same can.stored.addressed, subst (IsWhole w.files) same can.stored.whole),
 )
 
 pub if_ok : {T E : Type 0} {P Q : T → Type 0} (r : Result T E) → ((v : T) → P v → Q v) → IfOk r P → IfOk r Q

@@ -1,16 +1,11 @@
 -- Which steps are lawful for an installer.
-use Rattle.std.specs.Prelude.{◌≡◌, ◌≢◌, ◌⊎◌, ℕ, ◌≤◌, true, List, [], ◌∷◌, length, Option, Some, None}
+use Rattle.std.specs.Prelude.{◌≡◌, ◌≢◌, ◌⊎◌, ℕ, true, List, [], ◌∷◌, Option, Some, None}
 use Rattle.std.specs.List.{AllByRecursion}
-use Rattle.sha2.specs.Sha512.{sha512}
-use Rattle.pn_digest.specs.Listing.{IsListingText, Names}
 use Rattle.pn_storecore.specs.declared.step.StoreStep.{StoreStep}
 use Rattle.pn_storecore.specs.declared.step.StoreStep.TheVariants.{Claim, Create, Append, Shard, PublishFile, PublishListing, DropTemp, Read, Discard}
-use Rattle.pn_storecore.specs.World.{World, empty, Stands, owner_of, content, first_byte}
+use Rattle.pn_storecore.specs.World.{World, owner_of, content, first_byte}
+use Rattle.pn_storecore.specs.Stored.{IsStoredFile, IsStoredListing}
 use Rattle.pn_storecore.specs.Steps.{Event, Journal, after}
-
--- the most bytes that a stored file may have
-abbrev pub file_limit : ℕ
-file_limit = 268435456
 
 pub record CanCreate (who k n : ℕ) (w : World) : Type 0 where
   pub owned : owner_of w k ≡ Some who
@@ -25,8 +20,7 @@ pub record CanPublishFile (who k n : ℕ) (at : List ℕ) (w : World) : Type 0 w
   pub owned : owner_of w k ≡ Some who
   pub bytes : List ℕ
   pub stands : content w k n ≡ Some bytes
-  pub short : length bytes ≤ file_limit
-  pub addressed : sha512 bytes ≡ at
+  pub stored : IsStoredFile at bytes
   pub shard : w.files.shards (first_byte at) ≡ true
 
 -- A temporary file may be published as a listing at an address. Each file that it names stands.
@@ -34,10 +28,8 @@ pub record CanPublishListing (who k n : ℕ) (at : List ℕ) (w : World) : Type 
   pub owned : owner_of w k ≡ Some who
   pub bytes : List ℕ
   pub stands : content w k n ≡ Some bytes
-  pub addressed : sha512 bytes ≡ at
+  pub stored : IsStoredListing w.files at bytes
   pub shard : w.listings.shards (first_byte at) ≡ true
-  pub text : IsListingText bytes
-  pub named : (file : List ℕ) → Names bytes file → Stands w.files file
 
 -- One file may be dropped, and a folder in which no file is left.
 pub record CanDrop (who k : ℕ) (n : Option ℕ) (w : World) : Type 0 where

@@ -1,5 +1,5 @@
 -- What lawful steps of any number of installers leave.
-use Rattle.std.specs.Prelude.{◌≡◌, ◌≢◌, ℕ, true, List, take, Option, Some, None}
+use Rattle.std.specs.Prelude.{◌≡◌, ◌≢◌, ℕ, true, List, take, Some, None}
 use Rattle.std.specs.List.{AllByRecursion}
 use Rattle.sha2.specs.Sha512.{sha512}
 use Rattle.pn_digest.specs.Listing.{Names}

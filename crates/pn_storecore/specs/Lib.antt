@@ -1,5 +1,6 @@
 pub mod World
 pub mod Steps
+pub mod Stored
 pub mod Lawful
 pub mod Sound
 pub mod Laws
@@ -10,3 +11,7 @@ pub mod Kept
 pub mod Sets
 pub mod Told
 pub mod Came
+pub mod Held
+pub mod CallLaws
+pub mod Script
+pub mod Stores

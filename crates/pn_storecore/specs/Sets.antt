@@ -1,6 +1,6 @@
 -- Two proofs that worlds are equal are one.
 use Rattle.std.proofs.Props.{props}
-use Rattle.pn_storecore.specs.World.{Temp, Objects, World}
+use Rattle.pn_storecore.specs.World.{Temp, World}
 
 pub Temp-set : IsSet Temp
 Temp-set = hlevel props

@@ -1,5 +1,5 @@
 -- The world of a store: what stands at the addresses, and the temporary files.
-use Rattle.std.specs.Prelude.{◌≢◌, ℕ, Bool, false, List, [], ◌∷◌, Option, Some, None, nat_eq}
+use Rattle.std.specs.Prelude.{◌≢◌, ℕ, Bool, false, List, [], ◌∷◌, Option, None, nat_eq}
 use Rattle.std.specs.Option.{option_map, option_and_then}
 use Rattle.std.specs.Map.{update}
 use Rattle.std.specs.Str.{bytes_eq}
@@ -16,11 +16,15 @@ pub record Objects : Type 0 where
   pub shards : ℕ → Bool
   pub bytes : List ℕ → Option (List ℕ)
 
--- The files, the listings, and the folders of temporary files by their numbers.
+-- folders of temporary files by their numbers
+abbrev pub Temps : Type 0
+Temps = ℕ → Option Temp
+
+-- The files, the listings, and the folders of temporary files.
 pub record World : Type 0 where
   pub files : Objects
   pub listings : Objects
-  pub temps : ℕ → Option Temp
+  pub temps : Temps
 
 abbrev pub no_objects : Objects
 no_objects = record { shards = λ first. false; bytes = λ at. None }
@@ -42,8 +46,11 @@ abbrev pub owner_of : World → ℕ → Option ℕ
 owner_of w k = option_map (λ (t : Temp). t.owner) (w.temps k)
 
 -- the bytes of a temporary file
+abbrev pub file_of : Temps → ℕ → ℕ → Option (List ℕ)
+file_of temps k n = option_and_then (λ (t : Temp). t.files n) (temps k)
+
 abbrev pub content : World → ℕ → ℕ → Option (List ℕ)
-content w k n = option_and_then (λ (t : Temp). t.files n) (w.temps k)
+content w k n = file_of w.temps k n
 
 -- the first byte of an address, which its shard folder is named by
 abbrev pub first_byte : List ℕ → ℕ
@@ -54,17 +61,27 @@ first_byte (b ∷ bs) = b
 abbrev pub claimed_by : ℕ → Temp
 claimed_by who = record { owner = who; files = λ n. None }
 
--- the world with another folder of a number; `None` takes it away
+-- another folder of a number; `None` takes it away
+abbrev pub put_temp : Temps → ℕ → Option Temp → Temps
+put_temp temps k t = update nat_eq temps k t
+
+-- the world with other folders
+abbrev pub with_temps : World → Temps → World
+with_temps w temps = record { files = w.files; listings = w.listings; temps = temps }
+
 abbrev pub with_temp : World → ℕ → Option Temp → World
-with_temp w k t = record { files = w.files; listings = w.listings; temps = update nat_eq w.temps k t }
+with_temp w k t = with_temps w (put_temp w.temps k t)
 
 -- the folder with other bytes of a file; `None` takes the file away
 abbrev pub with_file : ℕ → Option (List ℕ) → Temp → Temp
 with_file n bytes t = record { owner = t.owner; files = update nat_eq t.files n bytes }
 
--- the world with other bytes of a temporary file, where its folder stands
+-- other bytes of a file, where its folder stands
+abbrev pub put_file : Temps → ℕ → ℕ → Option (List ℕ) → Temps
+put_file temps k n bytes = put_temp temps k (option_map (with_file n bytes) (temps k))
+
 abbrev pub with_content : World → ℕ → ℕ → Option (List ℕ) → World
-with_content w k n bytes = with_temp w k (option_map (with_file n bytes) (w.temps k))
+with_content w k n bytes = with_temps w (put_file w.temps k n bytes)
 
 -- other bytes at an address; `None` takes them away
 abbrev pub with_bytes : Objects → List ℕ → Option (List ℕ) → Objects

@@ -3,7 +3,7 @@ ghost use Rattle.std.specs.Prelude.{◌≡◌, IfOk};
 ghost use Rattle.std.specs.Bool.{Decides};
 ghost use Rattle.sha2.specs.Sha512.{sha512};
 ghost use Rattle.pn_storecore.specs.Lawful.{CanPublishListing, IsLawful};
-ghost use Rattle.pn_storecore.specs.Sound.{IsWhole};
+ghost use Rattle.pn_storecore.specs.Stored.{IsWhole};
 ghost use Rattle.pn_storecore.specs.Kept.{objects_in, world_in};
 
 use crate::conditions::{

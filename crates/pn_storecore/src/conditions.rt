@@ -3,7 +3,7 @@ ghost use Rattle.std.specs.Prelude.{◌≡◌, ℕ, Some, None};
 ghost use Rattle.std.specs.Bool.{Decides};
 ghost use Rattle.std.specs.Option.{option_copied};
 ghost use Rattle.sha2.specs.Sha512.{sha512};
-ghost use Rattle.pn_storecore.specs.Sound.{IsStoredFile, AllStand};
+ghost use Rattle.pn_storecore.specs.Stored.{IsStoredFile, AllStand};
 ghost use Rattle.pn_storecore.specs.World.{owner_of, content, first_byte};
 ghost use Rattle.pn_storecore.specs.Lawful.{CanCreate, CanAppend, CanPublishFile, CanDrop};
 ghost use Rattle.pn_storecore.specs.Kept.{objects_in, world_in};

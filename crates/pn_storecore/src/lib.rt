@@ -3,7 +3,8 @@
 //! A store is a journal of steps, each made by one installer. The world that a journal makes has the
 //! files and the listings at their digests, and the temporary files of each number. Which steps are
 //! lawful is a definition, and the laws say what lawful steps of any number of installers, in any
-//! order, leave: a sound world, in which what was published stays.
+//! order, leave: a sound world, in which what was published stays. Further laws say what an installer
+//! knows after each of its calls, and which call that allows.
 #![tactic(auto)]
 
 mod bytes;
@@ -26,11 +27,15 @@ mod world;
 pub use bytes::Bytes;
 pub use conditions::FILE_LIMIT;
 pub use disk::StoreDisk;
-pub use laws::{owner_law, place_law, published_law, sound_law};
+pub use laws::{
+    asks_law, holds_law, leaves_law, owner_law, place_law, published_law, sound_law, stands_law,
+};
 pub use mem::MemStore;
 pub use step::{Discard, Place, StoreStep};
 pub use sure::SureStore;
 pub use world::StoreWorld;
 
+#[cfg(test)]
+mod puts;
 #[cfg(test)]
 mod tests;

@@ -1,5 +1,7 @@
 // The steps of other installers on a store in memory.
+ghost use Rattle.std.specs.Prelude.{OnOk, [], ◌∷◌};
 ghost use Rattle.pn_storecore.specs.Came.{OthersCame};
+ghost use Rattle.pn_storecore.specs.Script.{DueCame};
 
 use crate::check::is_lawful;
 use crate::ledger::Ledger;
@@ -15,7 +17,8 @@ fn comes(
     call: u64,
     scheduled: &(u64, u64, StoreStep),
 ) -> Result<(), Memory>
-    ensures { OthersCame me ledger.old.journal.items ledger.new.journal.items }
+    ensures came { OthersCame me ledger.old.journal.items ledger.new.journal.items }
+    ensures due { OnOk result (DueCame me call (scheduled.now ∷ []) ledger.old.journal.items [] ledger.new.journal.items) }
 {
     let (at, who, step) = scheduled;
     if *at != call || *who == me {
@@ -36,7 +39,8 @@ pub fn others_come(
     call: u64,
     others: &[(u64, u64, StoreStep)],
 ) -> Result<(), Memory>
-    ensures { OthersCame me ledger.old.journal.items ledger.new.journal.items }
+    ensures came { OthersCame me ledger.old.journal.items ledger.new.journal.items }
+    ensures due { OnOk result (DueCame me call others.now ledger.old.journal.items [] ledger.new.journal.items) }
 {
     for scheduled in others {
         comes(alloc, ledger, me, call, scheduled)?;

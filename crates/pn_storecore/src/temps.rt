@@ -1,9 +1,9 @@
 // Temporary files, in folders by their numbers.
 ghost use Rattle.std.specs.Prelude.{◌≡◌, ◌++◌, Some, None, OnOk, OnErr, IfOk};
-ghost use Rattle.std.specs.Option.{option_map, option_copied};
-ghost use Rattle.std.specs.Ordering.{nat_cmp};
-ghost use Rattle.std.specs.BTreeMap.{get};
-ghost use Rattle.pn_storecore.specs.Maps.{temps_in, file_of, put_temp, put_file, claim_in, dropped_in};
+ghost use Rattle.std.specs.Option.{option_map};
+ghost use Rattle.pn_storecore.specs.World.{file_of, put_temp, put_file};
+ghost use Rattle.pn_storecore.specs.Steps.{claim_in, dropped_in};
+ghost use Rattle.pn_storecore.specs.Maps.{temps_in};
 ghost use Rattle.pn_storecore.specs.Calls.{AreNumbersOf};
 
 use crate::bytes::Bytes;
@@ -11,13 +11,6 @@ use crate::folder::Folder;
 use pn_text::Memory;
 use std::alloc::Global;
 use std::collections::BTreeMap;
-
-/// The folder of a number, where it stands.
-pub fn folder_at(temps: &BTreeMap<u32, Folder>, k: u32) -> Option<&Folder>
-    ensures { option_copied result ≡ get nat_cmp temps.now k }
-{
-    temps.get(&k)
-}
 
 /// Makes the folder of a number, where none stands.
 pub fn claim(

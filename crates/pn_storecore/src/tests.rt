@@ -1,7 +1,7 @@
 // Steps by what they leave, and stores by their answers.
 
+use crate::puts::{digest, put};
 use crate::{Bytes, Discard, MemStore, Place, StoreDisk, StoreStep, SureStore};
-use pn_digest::{Digest, Hasher512};
 use pn_text::DevFault;
 use std::alloc::Global;
 use std::test::Fail;
@@ -12,12 +12,6 @@ const LISTING: &[u8] =
 
 // No step is skipped.
 const NONE: u64 = 99;
-
-fn digest(bytes: &[u8]) -> Digest {
-    let mut hasher = Hasher512::new();
-    hasher.push(bytes);
-    hasher.end()
-}
 
 // What an installer does, step by step, that puts a file and its listing into the store.
 fn step_at(alloc: Global, i: u64) -> Result<StoreStep, Fail> {
@@ -111,23 +105,67 @@ fn what_is_not_claimed_is_passed_over(rt: HostRuntime) -> Result<(), Fail> {
     Ok(())
 }
 
+// A store for the installer 1 alone, one of whose calls fails.
+fn failing(alloc: Global, call: u64) -> Result<MemStore, Fail> {
+    let fail = vec![in alloc; call, NONE]?;
+    Ok(MemStore::new(alloc, 1, Vec::new(alloc), fail))
+}
+
+// Each call of a put fails once: claim, create, two appends, shard, publish, read, list, numbers, the
+// same of the listing, and the drop. What stands then is what the calls before it made.
 #[test]
-fn a_listed_call_fails(rt: HostRuntime) -> Result<(), Fail> {
+fn a_listed_call_fails_and_makes_no_step(rt: HostRuntime) -> Result<(), Fail> {
     let alloc = rt.alloc();
-    let fail = vec![in alloc; 5, 0, 1, 2, 3, 4]?;
-    let mut disk = MemStore::new(alloc, 1, Vec::new(alloc), fail);
-    let at = digest(b"abc");
-    let mut into = [0u8; 2];
-    assert_eq!(rt; disk.claim(0), Err(DevFault::Failed));
-    assert_eq!(rt; disk.shard(Place::Files, 0), Err(DevFault::Failed));
-    assert_eq!(rt;
-        disk.read(Place::Files, &at, 0, &mut into),
-        Err(DevFault::Failed)
-    );
-    assert!(rt; disk.list(Place::Files).is_err());
-    assert!(rt; disk.numbers().is_err());
-    assert_eq!(rt; disk.discard(Discard::File(at)), Err(DevFault::Failed));
-    assert!(rt; disk.claim(0)?);
+    for (call, left) in [
+        (0, (0, 0, 0)),
+        (1, (0, 0, 1)),
+        (2, (0, 0, 1)),
+        (3, (0, 0, 1)),
+        (4, (0, 0, 1)),
+        (5, (0, 0, 1)),
+        (6, (1, 0, 1)),
+        (7, (1, 0, 1)),
+        (8, (1, 0, 1)),
+        (9, (1, 0, 1)),
+        (10, (1, 0, 1)),
+        (11, (1, 0, 1)),
+        (12, (1, 0, 1)),
+        (13, (1, 0, 1)),
+        (14, (1, 1, 1)),
+    ] {
+        let mut disk = failing(alloc, call)?;
+        assert_eq!(rt; put(alloc, &mut disk, 0, b"abc")?, Err(DevFault::Failed));
+        assert_eq!(rt; counts(&mut disk)?, left);
+    }
+    Ok(())
+}
+
+#[test]
+fn a_failed_discard_leaves_what_stands(rt: HostRuntime) -> Result<(), Fail> {
+    let alloc = rt.alloc();
+    let mut disk = failing(alloc, 15)?;
+    assert!(rt; put(alloc, &mut disk, 0, b"abc")??);
+    let at = digest(LISTING);
+    assert_eq!(rt; disk.discard(Discard::Listing(at)), Err(DevFault::Failed));
+    assert_eq!(rt; counts(&mut disk)?, (1, 1, 0));
+    disk.discard(Discard::Listing(at))?;
+    assert_eq!(rt; counts(&mut disk)?, (1, 0, 0));
+    Ok(())
+}
+
+#[test]
+fn a_file_and_its_listing_are_put(rt: HostRuntime) -> Result<(), Fail> {
+    let alloc = rt.alloc();
+    let mut sure = SureStore::new(alloc, 7);
+    assert!(rt; put(alloc, &mut sure, 0, b"abc")??);
+    assert_eq!(rt; counts(&mut sure)?, (1, 1, 0));
+    let mut into = [0u8; 200];
+    let at = digest(LISTING);
+    assert_eq!(rt; sure.read(Place::Listings, &at, 0, &mut into)?, Some(131));
+    let mut beside = beside(alloc, 0, 11, NONE, 1)?;
+    assert!(rt; !put(alloc, &mut beside, 0, b"abc")??);
+    assert!(rt; put(alloc, &mut beside, 1, b"abc")??);
+    assert_eq!(rt; counts(&mut beside)?, (1, 1, 0));
     Ok(())
 }
 

@@ -1,10 +1,10 @@
 // The world of a store in memory.
 ghost use Rattle.std.specs.Prelude.{◌≡◌, Some, None, OnOk, OnErr};
 ghost use Rattle.std.specs.Option.{is_some};
-ghost use Rattle.pn_storecore.specs.World.{empty, objects, with_bytes};
+ghost use Rattle.pn_storecore.specs.World.{empty, objects, file_of, put_file, with_bytes};
 ghost use Rattle.pn_storecore.specs.Steps.{after, discarded};
 ghost use Rattle.pn_storecore.specs.declared.step.StoreStep.TheVariants as step;
-ghost use Rattle.pn_storecore.specs.Maps.{temps_in, file_of, put_file};
+ghost use Rattle.pn_storecore.specs.Maps.{temps_in};
 ghost use Rattle.pn_storecore.specs.Kept.{objects_in};
 
 use crate::bytes::Bytes;

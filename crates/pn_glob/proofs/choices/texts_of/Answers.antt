@@ -1,5 +1,4 @@
-use Rattle.std.proofs.Common.{ℕ, List, Vec, Global, subst}
-use Rattle.pn_glob.specs.Reading.{Grown, Stops, StopsIn}
+use Rattle.pn_glob.specs.Reading.{Stops}
 use Rattle.pn_glob.proofs.Braces.{exit_with, items_of, spelled-next, spelled-start, spelled-stops}
 use Rattle.pn_glob.proofs.choices.texts_of.Goals as goal
 
@@ -8,9 +7,7 @@ pieces-init c = spelled-start c.args.body.now (items_of c.in_ok-texts.texts.item
 
 pub returns-in_err-grown-clause-err : goal.returns-in_err-grown-clause-err
 returns-in_err-grown-clause-err c = exit_with (Stops c.args.body.now) _ _ c.from_residual-in_err-grown.ensures.1
-    (spelled-stops c.args.body.now (items_of c.pieces.texts.items) c.pieces.rest.now _ c.pieces.invariant
-    (subst (λ (l : List (Vec ℕ Global)). StopsIn (items_of l) c.pieces.rest.now c.in_err-grown.field-0.0) c.deref.ensures.value c.in_err-grown.ensures.err))
+    (spelled-stops c.args.body.now (items_of c.pieces.texts.items) c.pieces.rest.now _ c.pieces.invariant c.in_err-grown.ensures.err)
 
 pub pieces-preserved : goal.pieces-preserved
-pieces-preserved c = spelled-next c.args.body.now (items_of c.pieces.texts.items) c.pieces.rest.now (items_of c.in_ok-grown.grown.items) c.in_ok-grown.after.now c.pieces.invariant
-    (subst (λ (l : List (Vec ℕ Global)). Grown (items_of l) c.pieces.rest.now (items_of c.in_ok-grown.grown.items) c.in_ok-grown.after.now) c.deref.ensures.value c.in_ok-grown.ensures.ok)
+pieces-preserved c = spelled-next c.args.body.now (items_of c.pieces.texts.items) c.pieces.rest.now (items_of c.in_ok-grown.grown.items) c.in_ok-grown.after.now c.pieces.invariant c.in_ok-grown.ensures.ok

@@ -6,6 +6,8 @@ use Rattle.pn_ranges.specs.Edges.{left_at, named_by}
 use Rattle.pn_ranges.proofs.OverProofs.{comparator-over}
 use Rattle.pn_ranges.proofs.Steps.{space_exit}
 use Rattle.pn_ranges.proofs.Comparisons.{comparator-read, plain-end, signed-lead}
+use Rattle.pn_ranges.proofs.Inside.{exit_none, no-compared}
+use Rattle.pn_ranges.specs.Unread.{NoCompared}
 use Rattle.pn_ranges.proofs.comparator.comparator_at.Goals as goal
 
 pub returns-in_err-partial-clause-stops : goal.returns-in_err-partial-clause-stops
@@ -23,8 +25,8 @@ returns-clause-goes c = λ e h.
     c.sign_at-sign.ensures.goes e h ∙ signed-lead e c.sign_at-sign.result.0 c.sign_at-sign.result.1.now c.behind_spaces.result.now c.is_plain-plain.result c.is_plain-plain.ensures c.behind_spaces.ensures ∙ c.in_ok-partial.ensures.goes _
 
 pub returns-clause-over : goal.returns-clause-over
-returns-clause-over c = λ fit. comparator-over c.args.text.now c.sign_at-sign.result.1.now c.behind_spaces.result.now c.in_ok-partial.rest.now c.sign_at-sign.result.0 (named_by c.in_ok-partial.partial)
-    (λ k. left_at k c.in_ok-partial.partial) c.sign_at-sign.ensures.read c.sign_at-sign.ensures.longest c.behind_spaces.ensures c.in_ok-partial.ensures.places fit
+returns-clause-over c = λ fit ends. comparator-over c.args.text.now c.sign_at-sign.result.1.now c.behind_spaces.result.now c.in_ok-partial.rest.now c.sign_at-sign.result.0 (named_by c.in_ok-partial.partial)
+    (λ k. left_at k c.in_ok-partial.partial) c.sign_at-sign.ensures.read c.sign_at-sign.ensures.longest c.behind_spaces.ensures c.in_ok-partial.ensures.places fit ends
 
 pub returns-clause-shorter : goal.returns-clause-shorter
 returns-clause-shorter c =
@@ -34,3 +36,11 @@ returns-clause-shorter c =
     let m = append-le c.args.text.now read.front c.sign_at-sign.result.1.now read.split in
     let n = c.in_ok-partial.ensures.shorter in
     omega arith
+
+pub returns-in_err-partial-clause-none : goal.returns-in_err-partial-clause-none
+returns-in_err-partial-clause-none c = exit_none (NoCompared c.args.text.now) _
+    (no-compared c.args.text.now c.sign_at-sign.result.1.now c.behind_spaces.result.now c.sign_at-sign.ensures.behind c.behind_spaces.ensures c.in_err-partial.ensures.none)
+
+pub returns-clause-whole : goal.returns-clause-whole
+returns-clause-whole c = λ more.
+    no-compared c.args.text.now c.sign_at-sign.result.1.now c.behind_spaces.result.now c.sign_at-sign.ensures.behind c.behind_spaces.ensures (c.in_ok-partial.ensures.whole more)

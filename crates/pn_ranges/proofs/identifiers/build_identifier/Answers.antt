@@ -1,9 +1,9 @@
 use Rattle.std.proofs.Common.{sym, ap, ◌∙◌, subst}
 use Rattle.semver.specs.Grammar.{is_build_identifier, is_identifier_byte}
-use Rattle.pn_ranges.specs.Bytes.{starts_with}
+use Rattle.pn_ranges.specs.Bytes.{is_body, starts_with}
 use Rattle.pn_ranges.specs.Grammar.{Spanned}
 use Rattle.pn_ranges.specs.Places.{build, first_fault}
-use Rattle.pn_ranges.proofs.Fronts.{behind-stops}
+use Rattle.pn_ranges.proofs.Fronts.{behind-le, behind-stops}
 use Rattle.pn_ranges.proofs.Words.{build-read, build-goes}
 use Rattle.pn_ranges.proofs.identifiers.build_identifier.Goals as goal
 
@@ -17,3 +17,6 @@ returns-clause-ends c = ap (starts_with is_identifier_byte) c.behind_identifier.
 pub returns-clause-goes : goal.returns-clause-goes
 returns-clause-goes c = λ e. build-goes e _ _ _ c.in-Some.ensures (sym c.is_identifier_byte.ensures ∙ c.if-not-is_identifier_byte.false)
     ∙ ap (first_fault (build e)) (sym c.behind_identifier.ensures)
+
+pub returns-then-not-is_identifier_byte-clause-inside : goal.returns-then-not-is_identifier_byte-clause-inside
+returns-then-not-is_identifier_byte-clause-inside c = behind-le is_body c.args.text.now

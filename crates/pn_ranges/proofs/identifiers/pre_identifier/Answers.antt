@@ -1,11 +1,13 @@
-use Rattle.std.proofs.Common.{List, ℕ, sym, ap, ◌∙◌, subst, Some, length}
+use Rattle.std.specs.Prelude.{◌==◌}
+use Rattle.std.proofs.Common.{◌≤◌, List, ℕ, sym, ap, ◌∙◌, subst, Some, length}
 use Rattle.semver.specs.Grammar.{is_pre_identifier, is_identifier_byte}
 use Rattle.pn_ranges.specs.declared.fault.Stop.TheVariants.{Byte}
-use Rattle.pn_ranges.specs.Bytes.{behind, starts_with}
+use Rattle.pn_ranges.specs.Bytes.{behind, is_body, is_digit, starts_with}
 use Rattle.pn_ranges.specs.Grammar.{Spanned}
 use Rattle.pn_ranges.specs.Places.{pre, first_fault}
-use Rattle.pn_ranges.proofs.Fronts.{behind-stops}
-use Rattle.pn_ranges.proofs.Words.{pre-read, pre-goes, zero-read, zero-goes, zero-stops}
+use Rattle.pn_ranges.proofs.Fronts.{behind-le, behind-stops}
+use Rattle.pn_ranges.proofs.Words.{and_left, pre-read, pre-goes, zero-read, zero-goes, zero-stops}
+use Rattle.pn_ranges.proofs.Inside.{digits-inside}
 use Rattle.pn_ranges.proofs.identifiers.pre_identifier.Goals as goal
 
 pub returns-clause-read : goal.returns-clause-read
@@ -38,3 +40,12 @@ returns-then-is_zero_led-clause-goes c = λ e.
     zero-goes e _ _ _ c.in-Some.ensures (sym c.is_zero_led.ensures ∙ c.if-is_zero_led.true)
     (ap (starts_with is_identifier_byte) (sym c.behind_digits-word.ensures) ∙ sym c.starts_with_identifier.ensures ∙ c.if-not-starts_with_identifier.false)
     ∙ ap (first_fault (pre e)) (sym (c.behind_identifier.ensures ∙ ap (behind is_identifier_byte) c.behind_digits-word.ensures))
+
+pub returns-then-not-is_identifier_byte-clause-inside : goal.returns-then-not-is_identifier_byte-clause-inside
+returns-then-not-is_identifier_byte-clause-inside c = behind-le is_body c.args.text.now
+
+pub returns-then-not-starts_with_identifier-clause-inside : goal.returns-then-not-starts_with_identifier-clause-inside
+returns-then-not-starts_with_identifier-clause-inside c =
+    subst (λ (y : List ℕ). length (behind is_body c.args.text.now) ≤ length y) (sym c.behind_digits-word.ensures)
+    (digits-inside c.args.text.now c.in-Some.rest.now c.in-Some.b c.in-Some.ensures
+    (and_left (c.in-Some.b == 48) (starts_with is_digit c.in-Some.rest.now) (sym c.is_zero_led.ensures ∙ c.if-is_zero_led.true)))

@@ -1,7 +1,7 @@
 use Rattle.std.proofs.Common.{◌<◌, ◌^◌, sym, subst, ◌∙◌, arith}
 use Rattle.std.proofs.lemmas.Bool.Decides.{nat_tests}
-use Rattle.pn_ranges.specs.Bytes.{is_digit}
-use Rattle.pn_ranges.proofs.Fronts.{behind-shorter}
+use Rattle.pn_ranges.specs.Bytes.{is_body, is_digit}
+use Rattle.pn_ranges.proofs.Fronts.{behind-le, behind-shorter}
 use Rattle.pn_ranges.proofs.Parts.{zero-part, wild-part, number-part, number-goes}
 use Rattle.pn_ranges.proofs.part.part.Goals as goal
 
@@ -23,3 +23,9 @@ returns-in-Some-number-clause-goes c = λ e k.
 
 pub returns-in-Some-number-clause-shorter : goal.returns-in-Some-number-clause-shorter
 returns-in-Some-number-clause-shorter c = behind-shorter is_digit _ _ _ _ c.in-Some.ensures (sym c.is_digit.ensures ∙ c.if-not-is_digit.false) c.in-Some-number.ensures.rest
+
+pub returns-then-not-is_digit-clause-inside : goal.returns-then-not-is_digit-clause-inside
+returns-then-not-is_digit-clause-inside c = behind-le is_body c.args.text.now
+
+pub returns-in-None-clause-inside : goal.returns-in-None-clause-inside
+returns-in-None-clause-inside c = behind-le is_body c.args.text.now

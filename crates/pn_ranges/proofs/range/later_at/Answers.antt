@@ -1,4 +1,5 @@
-use Rattle.std.proofs.Common.{◌≡◌, ◌++◌, ◌+◌, subst, append_assoc, arith, ap, sym, ◌∙◌, false}
+use Rattle.std.proofs.Common.{◌≡◌, ◌+◌, subst, arith, ◌∙◌, false}
+use Rattle.pn_ranges.specs.Overs.{OverLater}
 use Rattle.pn_ranges.specs.Places.{first_fault, gap}
 use Rattle.pn_ranges.specs.Reading.{ComparatorsAt}
 use Rattle.pn_ranges.proofs.Joins.{exit_by, stops-from}
@@ -8,8 +9,9 @@ use Rattle.pn_ranges.proofs.range.later_at.Goals as goal
 pub returns-in_err-rest-clause-stops : goal.returns-in_err-rest-clause-stops
 returns-in_err-rest-clause-stops c =
     let i = c.comparators.invariant in
-    exit_by (NoLater c.args.text.now) (first_fault (gap false) c.args.text.now) c.args.text.now _ _ c.from_residual.ensures.1
-    (stops-from (first_fault (gap false) c.args.text.now) (first_fault (gap false) c.comparators.rest.now) i.part.0 c.comparators.rest.now c.args.text.now _ i.goes i.part.1 i.none c.in_err-rest.ensures.stops)
+    let t = c.args.text.now in
+    exit_by (OverLater t) (NoLater t) (first_fault (gap false) t) _ _ c.from_residual.ensures.1
+    (stops-from (first_fault (gap false) t) (first_fault (gap false) c.comparators.rest.now) _ i.goes i.none i.over c.in_err-rest.ensures.stops)
 
 pub comparators-preserved : goal.comparators-preserved
 comparators-preserved c =
@@ -23,5 +25,5 @@ comparators-preserved c =
       few = let f = i.few in let s = e.shorter in omega arith;
       goes = i.goes ∙ e.goes;
       none = λ h. i.none (e.none h);
-      part = (i.part.0 ++ e.part.0, i.part.1 ∙ ap (λ y. i.part.0 ++ y) e.part.1 ∙ sym (append_assoc i.part.0 e.part.0 c.in_ok-rest.rest.now));
+      over = λ left h. i.over left (e.over left h);
     }

@@ -1,5 +1,6 @@
-use Rattle.std.proofs.Common.{◌≡◌, ◌≤◌, ◌+◌, ◌++◌, ℕ, List, false, length}
+use Rattle.std.proofs.Common.{◌≡◌, ◌≤◌, ◌+◌, ℕ, List, false, length}
 use Rattle.pn_ranges.specs.Bytes.{is_space, starts_with}
+use Rattle.pn_ranges.specs.Overs.{OverLater}
 use Rattle.pn_ranges.specs.Places.{first_fault, gap}
 use Rattle.pn_ranges.specs.Reading.{ComparatorsAt}
 use Rattle.pn_ranges.specs.Unread.{NoLater}
@@ -12,7 +13,7 @@ invariant-comparators l = record {
   few : l.count + length l.rest ≤ length l.fn.text;
   goes : first_fault (gap false) l.fn.text ≡ first_fault (gap false) l.rest;
   none : NoLater l.rest → NoLater l.fn.text;
-  part : (front : List ℕ) × (l.fn.text ≡ front ++ l.rest);
+  over : (left : ℕ) → OverLater l.rest left → OverLater l.fn.text left;
 }
 
 abbrev pub decreases-comparators : goal.decreases-comparators

@@ -1,15 +1,17 @@
-use Rattle.std.proofs.Common.{◌++◌, ◌∷◌, [], sym, ◌∙◌, false}
+use Rattle.std.proofs.Common.{sym, ◌∙◌, false}
 use Rattle.pn_ranges.specs.Edges.{named_by}
+use Rattle.pn_ranges.specs.Overs.{OverRange}
+use Rattle.pn_ranges.specs.Overs as o
 use Rattle.pn_ranges.specs.Places.{dash, first, first_fault, gap, start}
 use Rattle.pn_ranges.specs.Table.{limits, raised}
-use Rattle.pn_ranges.proofs.Joins.{exit_by, first-read, gap-same, hyphen-length, lower-before, memory-stops, over-stops, push-empty, range-comparators, range-empty, range-hyphen, spaced-before, start-closed, start-comparator, start-dash, stops-fault, stops-from, with-first}
-use Rattle.pn_ranges.proofs.Unreads.{dash-hyphen, dash-later, no-first, no-later, no-range, plain-hyphen}
-use Rattle.pn_ranges.specs.Unread.{NoRanges}
+use Rattle.pn_ranges.specs.Unread.{NeverTo, RangeTo}
+use Rattle.pn_ranges.proofs.Joins.{exit_by, first-read, gap-same, hyphen-length, memory-stops, over-stops, push-empty, range-comparators, range-empty, range-hyphen, start-closed, start-comparator, start-dash, stops-fault, stops-from, with-first}
+use Rattle.pn_ranges.proofs.Unreads.{hyphen-none, hyphen-over, later-more, later-range, no-lower, over-more, range-none}
 use Rattle.pn_ranges.proofs.range.range_at.Goals as goal
 
 pub returns-in_err-push_edges-clause-stops : goal.returns-in_err-push_edges-clause-stops
-returns-in_err-push_edges-clause-stops c = exit_by (NoRanges c.args.text.now) (first_fault start c.args.text.now) c.args.text.now _ _ c.from_residual.ensures.1
-    (memory-stops (NoRanges c.args.text.now) (first_fault start c.args.text.now) c.args.text.now _ c.in_err-push_edges.ensures.err)
+returns-in_err-push_edges-clause-stops c = exit_by (OverRange c.args.text.now) (NeverTo RangeTo c.args.text.now) (first_fault start c.args.text.now) _ _ c.from_residual.ensures.1
+    (memory-stops (OverRange c.args.text.now) (NeverTo RangeTo c.args.text.now) (first_fault start c.args.text.now) _ c.in_err-push_edges.ensures.err)
 
 pub returns-then-ends_range-clause-read : goal.returns-then-ends_range-clause-read
 returns-then-ends_range-clause-read c = range-empty c.args.text.now c.push_edges.new.bounds.items
@@ -19,24 +21,25 @@ pub returns-then-ends_range-clause-goes : goal.returns-then-ends_range-clause-go
 returns-then-ends_range-clause-goes c = start-closed c.args.text.now c.requires.spaces (sym c.ends_range.ensures ∙ c.if-ends_range.true)
 
 pub returns-in_err-comparator-clause-stops : goal.returns-in_err-comparator-clause-stops
-returns-in_err-comparator-clause-stops c = exit_by (NoRanges c.args.text.now) (first_fault start c.args.text.now) c.args.text.now _ _ c.from_residual-in_err-comparator.ensures.1
-    (stops-fault (NoRanges c.args.text.now) (first_fault start c.args.text.now) c.args.text.now _
-    (start-comparator c.args.text.now c.requires.spaces (sym c.ends_range.ensures ∙ c.if-ends_range.false) ∙ c.in_err-comparator.ensures.stops first c.requires.spaces))
+returns-in_err-comparator-clause-stops c =
+    let t = c.args.text.now in
+    let some = sym c.ends_range.ensures ∙ c.if-ends_range.false in
+    exit_by (OverRange t) (NeverTo RangeTo t) (first_fault start t) _ _ c.from_residual-in_err-comparator.ensures.1
+    (stops-fault (OverRange t) (NeverTo RangeTo t) (first_fault start t) _ (start-comparator t c.requires.spaces some ∙ c.in_err-comparator.ensures.stops first c.requires.spaces)
+    (range-none t c.requires.spaces some c.in_err-comparator.ensures.none))
 
 pub returns-in_err-rest-clause-stops : goal.returns-in_err-rest-clause-stops
 returns-in_err-rest-clause-stops c =
-    let f = start-comparator c.args.text.now c.requires.spaces (sym c.ends_range.ensures ∙ c.if-ends_range.false) ∙ c.in_ok-comparator.ensures.goes first c.requires.spaces in
+    let t = c.args.text.now in
+    let some = sym c.ends_range.ensures ∙ c.if-ends_range.false in
     let p = c.in_ok-comparator.comparator in
-    let low = c.in_ok-comparator.ensures.lower c.in-Some.ensures.0 in
-    exit_by (NoRanges c.args.text.now) (first_fault start c.args.text.now) c.args.text.now _ _ c.from_residual-in_err-rest.ensures.1
-    (stops-from (first_fault start c.args.text.now) (first_fault dash c.in-Some.upper.now) (low.front ++ (low.spaces ++ 45 ∷ [])) c.in-Some.upper.now c.args.text.now _
-    (start-dash p.plain c.args.text.now c.in_ok-comparator.rest.now c.in-Some.upper.now f c.in-Some.ensures.0 c.in-Some.ensures.1)
-    (lower-before c.args.text.now c.in_ok-comparator.rest.now c.in-Some.upper.now (named_by p.partial) low c.in-Some.ensures.1)
-    (λ none. no-range c.args.text.now c.requires.spaces (sym c.ends_range.ensures ∙ c.if-ends_range.false)
-    (no-later c.args.text.now c.in_ok-comparator.rest.now p.sign (named_by p.partial) c.in_ok-comparator.ensures.read c.in_ok-comparator.ensures.spaces
-    (dash-later c.in_ok-comparator.rest.now c.in-Some.upper.now c.in-Some.ensures.1))
-    (λ q k lss a w. dash-hyphen c.args.text.now c.in_ok-comparator.rest.now c.in-Some.upper.now p.sign (named_by p.partial) c.in_ok-comparator.ensures.read
-    c.in_ok-comparator.ensures.spaces c.in-Some.ensures.1 none))
+    let q = c.in_ok-comparator.ensures in
+    let low = q.lower c.in-Some.ensures.0 in
+    exit_by (OverRange t) (NeverTo RangeTo t) (first_fault start t) _ _ c.from_residual-in_err-rest.ensures.1
+    (stops-from (first_fault start t) (first_fault dash c.in-Some.upper.now) _
+    (start-dash p.plain t c.in_ok-comparator.rest.now c.in-Some.upper.now (start-comparator t c.requires.spaces some ∙ q.goes first c.requires.spaces) c.in-Some.ensures.0 c.in-Some.ensures.1)
+    (hyphen-none t c.in_ok-comparator.rest.now c.in-Some.upper.now p.sign (named_by p.partial) q.read c.requires.spaces some q.spaces low c.in-Some.ensures.1)
+    (hyphen-over t c.in_ok-comparator.rest.now c.in-Some.upper.now (named_by p.partial) low c.in-Some.ensures.1)
     c.in_err-rest.ensures.stops)
 
 pub returns-in-Some-clause-read : goal.returns-in-Some-clause-read
@@ -55,30 +58,30 @@ returns-in-Some-clause-goes c =
 
 pub returns-in_err-push_comparator-clause-stops : goal.returns-in_err-push_comparator-clause-stops
 returns-in_err-push_comparator-clause-stops c =
+    let t = c.args.text.now in
+    let some = sym c.ends_range.ensures ∙ c.if-ends_range.false in
     let x = c.in_ok-comparator.comparator.sign in
     let p = c.in_ok-comparator.comparator.partial in
-    let f = start-comparator c.args.text.now c.requires.spaces (sym c.ends_range.ensures ∙ c.if-ends_range.false) ∙ c.in_ok-comparator.ensures.goes first c.requires.spaces
-    ∙ gap-same c.in_ok-comparator.comparator.plain c.in_ok-comparator.rest.now c.in_ok-comparator.ensures.spaces c.in_default.ensures in
-    exit_by (NoRanges c.args.text.now) (first_fault start c.args.text.now) c.args.text.now _ _ c.from_residual-in_err-push_comparator.ensures.1
-    (over-stops (first_fault start c.args.text.now) c.args.text.now (limits x (named_by p)) (raised x (named_by p)) p _ c.in_ok-comparator.ensures.over
-    (λ fit. no-range c.args.text.now c.requires.spaces (sym c.ends_range.ensures ∙ c.if-ends_range.false)
-    (no-first c.args.text.now c.in_ok-comparator.rest.now x (named_by p) c.in_ok-comparator.ensures.read fit)
-    (plain-hyphen c.args.text.now c.in_ok-comparator.rest.now x (named_by p) c.in_ok-comparator.ensures.read c.requires.spaces c.in_ok-comparator.ensures.spaces f))
+    let q = c.in_ok-comparator.ensures in
+    let goes = start-comparator t c.requires.spaces some ∙ q.goes first c.requires.spaces ∙ gap-same c.in_ok-comparator.comparator.plain c.in_ok-comparator.rest.now q.spaces c.in_default.ensures in
+    exit_by (OverRange t) (NeverTo RangeTo t) (first_fault start t) _ _ c.from_residual-in_err-push_comparator.ensures.1
+    (over-stops (OverRange t) (NeverTo RangeTo t) (first_fault start t) (limits x (named_by p)) (raised x (named_by p)) p _
+    (λ fit. o.comparators t _ (no-lower t c.in_ok-comparator.rest.now x (named_by p) q.read q.spaces goes) (q.over fit))
     c.in_err-push_comparator.ensures.err)
 
 pub returns-in_err-count-clause-stops : goal.returns-in_err-count-clause-stops
 returns-in_err-count-clause-stops c =
-    let f = start-comparator c.args.text.now c.requires.spaces (sym c.ends_range.ensures ∙ c.if-ends_range.false) ∙ c.in_ok-comparator.ensures.goes first c.requires.spaces in
+    let t = c.args.text.now in
+    let some = sym c.ends_range.ensures ∙ c.if-ends_range.false in
     let p = c.in_ok-comparator.comparator in
-    let a = c.in_ok-comparator.ensures.read in
-    exit_by (NoRanges c.args.text.now) (first_fault start c.args.text.now) c.args.text.now _ _ c.from_residual-in_err-count.ensures.1
-    (stops-from (first_fault start c.args.text.now) (first_fault (gap false) c.in_ok-comparator.rest.now) (a.front ++ a.spaces) c.in_ok-comparator.rest.now c.args.text.now _
-    (f ∙ gap-same p.plain c.in_ok-comparator.rest.now c.in_ok-comparator.ensures.spaces c.in_default.ensures)
-    (spaced-before c.args.text.now c.in_ok-comparator.rest.now p.sign (named_by p.partial) a)
-    (λ none. no-range c.args.text.now c.requires.spaces (sym c.ends_range.ensures ∙ c.if-ends_range.false)
-    (no-later c.args.text.now c.in_ok-comparator.rest.now p.sign (named_by p.partial) a c.in_ok-comparator.ensures.spaces none)
-    (plain-hyphen c.args.text.now c.in_ok-comparator.rest.now p.sign (named_by p.partial) a c.requires.spaces c.in_ok-comparator.ensures.spaces
-    (f ∙ gap-same p.plain c.in_ok-comparator.rest.now c.in_ok-comparator.ensures.spaces c.in_default.ensures)))
+    let q = c.in_ok-comparator.ensures in
+    let goes = start-comparator t c.requires.spaces some ∙ q.goes first c.requires.spaces ∙ gap-same p.plain c.in_ok-comparator.rest.now q.spaces c.in_default.ensures in
+    let low = no-lower t c.in_ok-comparator.rest.now p.sign (named_by p.partial) q.read q.spaces goes in
+    exit_by (OverRange t) (NeverTo RangeTo t) (first_fault start t) _ _ c.from_residual-in_err-count.ensures.1
+    (stops-from (first_fault start t) (first_fault (gap false) c.in_ok-comparator.rest.now) _ goes
+    (λ none. later-range t c.requires.spaces some low
+    (later-more t c.in_ok-comparator.rest.now p.sign (named_by p.partial) q.read q.spaces c.in_ok-push_comparator.ensures.fit none))
+    (λ left h. o.comparators t left low (over-more t c.in_ok-comparator.rest.now p.sign (named_by p.partial) q.read q.spaces c.in_ok-push_comparator.ensures.fit left h))
     c.in_err-count.ensures.stops)
 
 pub returns-clause-read : goal.returns-clause-read

@@ -3,6 +3,8 @@ use Rattle.pn_ranges.specs.Bytes.{is_space}
 use Rattle.pn_ranges.specs.Edges.{named_by}
 use Rattle.pn_ranges.proofs.Fronts.{behind-le}
 use Rattle.pn_ranges.proofs.Spaced.{spaced-read, lower-read, comparator-pre, stops-behind}
+use Rattle.pn_ranges.proofs.Closings.{gap-whole}
+use Rattle.pn_ranges.specs.Overs as o
 use Rattle.pn_ranges.proofs.range.spaced_at.Goals as goal
 
 pub returns-clause-read : goal.returns-clause-read
@@ -23,3 +25,7 @@ returns-clause-shorter c =
     let k = behind-le is_space c.in_ok-comparator.behind.now in
     let m = c.in_ok-comparator.ensures.shorter in
     omega arith
+
+pub returns-clause-over : goal.returns-clause-over
+returns-clause-over c = λ fit. o.here c.args.text.now c.in_ok-comparator.behind.now _
+    (c.in_ok-comparator.ensures.over fit (gap-whole c.in_ok-comparator.behind.now c.in_ok-rest.rest.now c.in_ok-rest.ensures.spaces c.in_ok-rest.ensures.apart))

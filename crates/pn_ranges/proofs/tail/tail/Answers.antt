@@ -5,6 +5,7 @@ use Rattle.pn_ranges.proofs.Tails.{absent-build, bare-tail, pre-tail, whole-buil
 use Rattle.pn_ranges.specs.Bytes.{starts_with}
 use Rattle.pn_ranges.specs.Places.{whole, first_fault}
 use Rattle.pn_ranges.proofs.Steps.{exit_stops}
+use Rattle.pn_ranges.proofs.Inside.{byte-inside, exit_inside, pres-inside}
 use Rattle.pn_ranges.proofs.tail.tail.Goals as goal
 
 pub returns-in_default-clause-read : goal.returns-in_default-clause-read
@@ -26,3 +27,8 @@ returns-clause-read c = pre-tail _ _ _ _ _ _ c.in-Some.ensures c.if-b-ne45.false
 
 pub returns-clause-goes : goal.returns-clause-goes
 returns-clause-goes c = λ e. whole-hyphen e _ _ _ c.in-Some.ensures c.if-b-ne45.false ∙ c.in_ok-after.ensures.goes e ∙ pre-build e c.in_ok-after.after.now c.in_ok-after.ensures.ends ∙ c.in_ok-rest-2.ensures.goes e
+
+pub returns-in_err-rest-2-clause-inside : goal.returns-in_err-rest-2-clause-inside
+returns-in_err-rest-2-clause-inside c = exit_inside c.args.text.now _ _ c.from_residual-in_err-rest-2.ensures.1
+    (byte-inside c.args.text.now c.in-Some.behind.now c.in-Some.b _ c.in-Some.ensures (grind (arith, nat_tests, c.if-b-ne45.false))
+    (pres-inside c.in-Some.behind.now c.in_ok-after.after.now _ c.in_ok-after.ensures.read c.in_err-rest-2.ensures.inside))

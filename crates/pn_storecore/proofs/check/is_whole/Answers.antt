@@ -1,6 +1,6 @@
 use Rattle.std.proofs.Common.{subst}
 use Rattle.std.specs.Bool.{Decides}
-use Rattle.pn_storecore.specs.Sound.{AllStand}
+use Rattle.pn_storecore.specs.Stored.{AllStand}
 use Rattle.pn_storecore.specs.Kept.{objects_in}
 use Rattle.pn_storecore.proofs.Standing.{whole}
 use Rattle.pn_storecore.proofs.check.is_whole.Goals as goal

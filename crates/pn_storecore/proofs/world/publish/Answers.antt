@@ -1,4 +1,4 @@
-use Rattle.std.proofs.Common.{ap, sym, ◌∙◌, Some, None, []}
+use Rattle.std.proofs.Common.{ap, sym, ◌∙◌, Some, None}
 use Rattle.pn_storecore.specs.World.{with_bytes}
 use Rattle.pn_storecore.specs.Kept.{objects_in}
 use Rattle.pn_storecore.proofs.Addresses.{twice, stands_put}

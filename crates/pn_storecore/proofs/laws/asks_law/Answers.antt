@@ -1,0 +1,5 @@
+use Rattle.pn_storecore.proofs.Holding.{asks}
+use Rattle.pn_storecore.proofs.laws.asks_law.Goals as goal
+
+pub returns : goal.returns
+returns c = asks

@@ -1,0 +1,5 @@
+use Rattle.pn_storecore.proofs.Holding.{holds}
+use Rattle.pn_storecore.proofs.laws.holds_law.Goals as goal
+
+pub returns : goal.returns
+returns c = holds

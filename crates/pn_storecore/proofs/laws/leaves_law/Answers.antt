@@ -1,0 +1,5 @@
+use Rattle.pn_storecore.proofs.Leaving.{leaves}
+use Rattle.pn_storecore.proofs.laws.leaves_law.Goals as goal
+
+pub returns : goal.returns
+returns c = leaves

@@ -1,0 +1,5 @@
+use Rattle.pn_storecore.proofs.Leaving.{stands}
+use Rattle.pn_storecore.proofs.laws.stands_law.Goals as goal
+
+pub returns : goal.returns
+returns c = stands
