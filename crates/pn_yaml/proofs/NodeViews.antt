@@ -1,9 +1,9 @@
 -- A node, level by level, and what a flow still has to print behind some of its entries.
-use Rattle.std.proofs.Common.{Bool, false, length, get_or, true, add-one, append-nil, ◌≡◌, ℕ, zero, suc, ◌+◌, ◌<◌, ◌≤◌, List, [], ◌∷◌, ◌++◌, drop, refl, sym, ap, ◌∙◌, arith, rules, append_assoc}
+use Rattle.std.proofs.Common.{Bool, false, length, get_or, true, add-one, ◌≡◌, ℕ, zero, suc, ◌+◌, ◌<◌, ◌≤◌, List, [], ◌∷◌, ◌++◌, drop, refl, sym, ap, ◌∙◌, arith, rules, append_assoc}
 use Rattle.std.specs.Prelude.{◌==◌, replicate, take}
 use Rattle.std.proofs.lemmas.List.{drop_more}
 use Rattle.pn_yaml.specs.Bytes.{space}
-use Rattle.pn_yaml.specs.Data.{Data, scalar, list, map, Items, no_items, item, Members, no_members, member}
+use Rattle.pn_yaml.specs.Data.{Data, scalar, list, map, Items, Members, member}
 use Rattle.pn_yaml.specs.View.{view, items_view, members_view}
 use Rattle.pn_yaml.specs.Printing.{Level, flow_text, items_lines, members_lines, value_lines, items_text, later_items_text, members_text, later_members_text, key_text, spaces}
 use Rattle.pn_yaml.specs.Levels.{list_lines}

@@ -1,17 +1,16 @@
 -- A scalar printed plain is read back.
-use Rattle.std.proofs.Common.{◌≡◌, ℕ, Bool, true, false, List, [], ◌∷◌, ◌++◌, Ok, refl, sym, ap, ◌∙◌, inl, inr, arith}
+use Rattle.std.proofs.Common.{◌≡◌, ℕ, Bool, true, false, List, [], ◌∷◌, ◌++◌, Ok, refl, ap, ◌∙◌, inl, inr}
 use Rattle.std.specs.Prelude.{◌==◌, ◌&&◌, ◌||◌, not, codes, if◌then◌else◌}
 use Rattle.std.specs.List.{list_all, list_any}
 use Rattle.std.proofs.lemmas.Bool.{cases_Bool}
-use Rattle.std.proofs.lemmas.Bool.Decides.{nat_tests}
 use Rattle.pn_yaml.specs.declared.fault.Why.TheVariants as why
 use Rattle.pn_yaml.specs.declared.scalar.Place.{Place}
 use Rattle.pn_yaml.specs.declared.scalar.Place.TheVariants as place
 use Rattle.pn_yaml.specs.Bytes.{space, starts, is_empty, is_blank, unindented, trimmed, ends_word}
 use Rattle.pn_yaml.specs.Outcome.{wrong}
-use Rattle.pn_yaml.specs.Scalars.{Word, absent, ends_plain, is_left_out, plain_front, plain_rest, plain_word, plain_at}
+use Rattle.pn_yaml.specs.Scalars.{absent, ends_plain, is_left_out, plain_front, plain_rest, plain_word, plain_at}
 use Rattle.pn_yaml.specs.Words.{begins_wrong, ends_wrong, holds_pair, is_one_of, is_shown, may_be_plain}
-use Rattle.pn_yaml.proofs.ByteTests.{and_left, and_right, or_left, or_right, or_none, not_false, apart, fewer}
+use Rattle.pn_yaml.proofs.ByteTests.{and_left, and_right, or_left, or_right, or_none, not_false, apart}
 
 -- whether a place is in a flow
 abbrev pub in_flow : Place → Bool
@@ -68,13 +67,13 @@ none : (p : Place) (tail : List ℕ) → may_end p tail ≡ true → Parts p tai
 none p [] h = record { front_is = refl; rest_is = refl }
 none p (b ∷ rest) h = record {
   front_is = ap (λ z. if z then [] else b ∷ plain_front p rest) h;
-  rest_is = ap (λ z. if z then b ∷ rest else plain_rest p rest) h
+  rest_is = ap (λ z. if z then b ∷ rest else plain_rest p rest) h;
 }
 
 more : (p : Place) (b : ℕ) (next front rest : List ℕ) → ends_plain p (b ∷ next) ≡ false → Parts p next front rest → Parts p (b ∷ next) (b ∷ front) rest
 more p b next front rest h parts = record {
   front_is = ap (λ z. if z then [] else b ∷ plain_front p next) h ∙ ap (λ y. b ∷ y) parts.front_is;
-  rest_is = ap (λ z. if z then b ∷ next else plain_rest p next) h ∙ parts.rest_is
+  rest_is = ap (λ z. if z then b ∷ next else plain_rest p next) h ∙ parts.rest_is;
 }
 
 and_none : (a b : Bool) → a ≡ false → (a && b) ≡ false
@@ -95,16 +94,16 @@ parts_of p [] tail e k c m h = cc
 parts_of p (b ∷ []) tail e k c m h =
     more p b tail [] tail
     (goes_on p b tail (and_none (b == space) (starts 35 tail) (or_left (b == space) (b == 58) e)) (and_none (b == 58) (ends_word tail) (or_right (b == space) (b == 58) e))
-      (marks_first (in_flow p) (is_one_of (codes ",[]{}") b) false m))
+    (marks_first (in_flow p) (is_one_of (codes ",[]{}") b) false m))
     (none p tail h)
 parts_of p (b ∷ d ∷ rest) tail e k c m h =
     more p b (d ∷ (rest ++ tail)) (d ∷ rest) tail
     (goes_on p b (d ∷ (rest ++ tail)) (or_left ((b == space) && starts 35 (d ∷ rest)) (holds_pair space 35 (d ∷ rest)) c)
-      (or_left ((b == 58) && starts space (d ∷ rest)) (holds_pair 58 space (d ∷ rest)) k)
-      (marks_first (in_flow p) (is_one_of (codes ",[]{}") b) (list_any (is_one_of (codes ",[]{}")) (d ∷ rest)) m))
+    (or_left ((b == 58) && starts space (d ∷ rest)) (holds_pair 58 space (d ∷ rest)) k)
+    (marks_first (in_flow p) (is_one_of (codes ",[]{}") b) (list_any (is_one_of (codes ",[]{}")) (d ∷ rest)) m))
     (parts_of p (d ∷ rest) tail e (or_right ((b == 58) && starts space (d ∷ rest)) (holds_pair 58 space (d ∷ rest)) k)
-      (or_right ((b == space) && starts 35 (d ∷ rest)) (holds_pair space 35 (d ∷ rest)) c)
-      (marks_rest (in_flow p) (is_one_of (codes ",[]{}") b) (list_any (is_one_of (codes ",[]{}")) (d ∷ rest)) m) h)
+    (or_right ((b == space) && starts 35 (d ∷ rest)) (holds_pair space 35 (d ∷ rest)) c)
+    (marks_rest (in_flow p) (is_one_of (codes ",[]{}") b) (list_any (is_one_of (codes ",[]{}")) (d ∷ rest)) m) h)
 
 -- a text that doesn't end with a space isn't blank, and nothing is trimmed off it
 filled : (text : List ℕ) → ends_wrong text ≡ false → is_blank text ≡ false

@@ -1,12 +1,12 @@
 -- A scalar printed in quotes is read back.
-use Rattle.std.proofs.Common.{◌≡◌, ℕ, zero, suc, ◌+◌, ◌-◌, ◌*◌, ◌/◌, ◌%◌, ◌<◌, ◌≤◌, Bool, true, false, List, [], ◌∷◌, ◌++◌, Option, Some, None, Ok, Result, refl, sym, ap, subst, ◌∙◌, inl, inr, append_assoc, arith}
-use Rattle.std.specs.Prelude.{◌==◌, ◌&&◌, ◌||◌, not, nat_lt, nat_le, codes, if◌then◌else◌, encode_utf8}
+use Rattle.std.proofs.Common.{◌≡◌, ℕ, ◌+◌, ◌*◌, ◌/◌, ◌%◌, ◌<◌, Bool, true, false, List, [], ◌∷◌, ◌++◌, Option, Some, Ok, Result, refl, sym, ap, subst, ◌∙◌, inl, inr, append_assoc, arith}
+use Rattle.std.specs.Prelude.{◌==◌, codes, if◌then◌else◌, encode_utf8}
 use Rattle.std.proofs.lemmas.Bool.{cases_Bool, eqb-true}
 use Rattle.std.proofs.lemmas.Bool.Decides.{nat_tests}
 use Rattle.std.proofs.lemmas.Str.{encode_ascii}
 use Rattle.pn_yaml.specs.declared.fault.YamlFault.{YamlFault}
 use Rattle.pn_yaml.specs.Bytes.{starts}
-use Rattle.pn_yaml.specs.Scalars.{Word, bad, closed, go, single, quote, double, slash, digits, quoted_at, with_bytes, turned, turn_of, digit_of, digit_turn, is_surrogate, on_some}
+use Rattle.pn_yaml.specs.Scalars.{Word, bad, closed, go, single, quote, double, slash, quoted_at, with_bytes, turned, turn_of, digit_of, digit_turn, is_surrogate, on_some}
 use Rattle.pn_yaml.specs.Words.{doubled, digit_text, escaped, escaped_byte, is_control}
 
 abbrev Read : Type 0
@@ -87,18 +87,18 @@ escaped_one line b x text tail again =
     elim (cases_Bool (b == 34)) [
       | inl e ↦ stands line b 34 x text tail e (slashed 34)
       | inr e ↦ elim (cases_Bool (b == 92)) [
-          | inl f ↦ stands line b 92 x text tail f (slashed 92)
-          | inr f ↦ elim (cases_Bool (b == 10)) [
-              | inl g ↦ stands line b 10 x text tail g (slashed 10)
-              | inr g ↦ elim (cases_Bool (b == 9)) [
-                  | inl h ↦ stands line b 9 x text tail h (slashed 9)
-                  | inr h ↦ elim (cases_Bool (b == 13)) [
-                      | inl i ↦ stands line b 13 x text tail i (slashed 13)
-                      | inr i ↦ other line b x text tail e f g h i again
-                    ]
-                ]
+        | inl f ↦ stands line b 92 x text tail f (slashed 92)
+        | inr f ↦ elim (cases_Bool (b == 10)) [
+          | inl g ↦ stands line b 10 x text tail g (slashed 10)
+          | inr g ↦ elim (cases_Bool (b == 9)) [
+            | inl h ↦ stands line b 9 x text tail h (slashed 9)
+            | inr h ↦ elim (cases_Bool (b == 13)) [
+              | inl i ↦ stands line b 13 x text tail i (slashed 13)
+              | inr i ↦ other line b x text tail e f g h i again
             ]
+          ]
         ]
+      ]
     ]
 
 pub escaped_read : (line : ℕ) (text tail : List ℕ) → quoted_at line double (escaped text ++ 34 ∷ tail) ≡ quoted text tail

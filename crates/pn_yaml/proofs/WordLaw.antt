@@ -1,6 +1,6 @@
 -- A printed scalar is read back, and what stands behind it is left.
-use Rattle.std.proofs.Common.{◌≡◌, ℕ, Bool, true, false, List, [], ◌∷◌, ◌++◌, Ok, Result, refl, sym, ap, subst, ◌∙◌, inl, inr, append_assoc, append-nil}
-use Rattle.std.specs.Prelude.{◌==◌, ◌&&◌, ◌||◌, not, codes, if◌then◌else◌}
+use Rattle.std.proofs.Common.{◌≡◌, ℕ, Bool, true, false, List, [], ◌∷◌, ◌++◌, Ok, Result, refl, sym, ap, ◌∙◌, inl, inr, append_assoc, append-nil}
+use Rattle.std.specs.Prelude.{◌==◌, not, codes, if◌then◌else◌}
 use Rattle.std.specs.List.{list_any}
 use Rattle.std.proofs.lemmas.Bool.{cases_Bool, eqb-true}
 use Rattle.pn_yaml.specs.declared.fault.Why.TheVariants as why
@@ -11,7 +11,7 @@ use Rattle.pn_yaml.specs.Bytes.{starts, tail_of, ends_word}
 use Rattle.pn_yaml.specs.Outcome.{◌>>=◌, wrong}
 use Rattle.pn_yaml.specs.Scalars.{Word, double, ends_plain, is_colon, plain_at, quoted_at, single, word_at}
 use Rattle.pn_yaml.specs.Blocks.{key_at}
-use Rattle.pn_yaml.specs.Words.{begins_wrong, doubled, escaped, is_ambiguous, is_control, is_one_of, is_plain, may_be_plain, word_text}
+use Rattle.pn_yaml.specs.Words.{begins_wrong, doubled, escaped, is_control, is_one_of, is_plain, may_be_plain, word_text}
 use Rattle.pn_yaml.specs.Printing.{key_text}
 use Rattle.pn_yaml.proofs.ByteTests.{and_left, apart, fewer}
 use Rattle.pn_yaml.proofs.PlainLaw.{in_flow, may_end, plain_read, plain_text}
@@ -36,9 +36,9 @@ form_of flow text plain =
     elim (cases_Bool (is_plain flow text plain)) [
       | inl e ↦ bare e (ap (λ z. if z then text else quoted (list_any is_control text)) e)
       | inr e ↦ elim (cases_Bool (list_any is_control text)) [
-          | inl c ↦ with_double e (ap (λ z. if z then text else quoted (list_any is_control text)) e ∙ ap quoted c)
-          | inr c ↦ with_single e c (ap (λ z. if z then text else quoted (list_any is_control text)) e ∙ ap quoted c)
-        ]
+        | inl c ↦ with_double e (ap (λ z. if z then text else quoted (list_any is_control text)) e ∙ ap quoted c)
+        | inr c ↦ with_single e c (ap (λ z. if z then text else quoted (list_any is_control text)) e ∙ ap quoted c)
+      ]
     ]
 
 -- a byte that a printed scalar may begin with

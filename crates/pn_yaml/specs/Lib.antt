@@ -12,3 +12,4 @@ pub mod Laws
 pub mod Samples
 pub mod PlainRun
 pub mod Levels
+pub mod PrintedSamples

@@ -25,7 +25,9 @@ pub(crate) fn is_flow_key(key: &[u8]) -> bool
 fn is_spread_key(key: &[u8]) -> bool
     ensures { result ≡ is_spread_key key.now }
 {
-    key == b"importers".as_slice() || key == b"packages".as_slice() || key == b"snapshots".as_slice()
+    key == b"importers".as_slice()
+        || key == b"packages".as_slice()
+        || key == b"snapshots".as_slice()
 }
 
 /// Where the members of a map under this key stand.

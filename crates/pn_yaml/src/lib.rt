@@ -14,3 +14,6 @@ pub use fault::{Why, YamlFault};
 pub use laws::{print_law, read_law};
 pub use node::{Node, Scalar};
 pub use print_block::print;
+
+#[cfg(test)]
+mod print_tests;
