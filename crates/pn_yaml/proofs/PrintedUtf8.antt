@@ -128,7 +128,7 @@ behind : (a b : List ℕ) → IsUtf8 b → is_utf8 (a ++ b) ≡ is_utf8 a
 behind a b u =
     same_tests _ _
     (λ e. is_utf8-from_IsUtf8 a (let whole = IsUtf8-from_is_utf8 (a ++ b) e in
-      subst IsUtf8 (take-append_seam a b) (IsUtf8-take (a ++ b) (length a) whole (IsCharBoundary-at_seam (a ++ b) a b refl u))))
+    subst IsUtf8 (take-append_seam a b) (IsUtf8-take (a ++ b) (length a) whole (IsCharBoundary-at_seam (a ++ b) a b refl u))))
     (λ e. is_utf8-from_IsUtf8 (a ++ b) (IsUtf8-append a b (IsUtf8-from_is_utf8 a e) u))
 
 pub utf8_ascii : (a b : List ℕ) → are_ascii b ≡ true → is_utf8 (a ++ b) ≡ is_utf8 a

@@ -11,5 +11,5 @@ invariant-push_members-loop-key l = record {
   flat : l.indent + 2 * members_depth (members_view (drop l.key-index l.members)) ≤ 128;
   same : l.out.items ++ members_lines (level_of l.level) l.indent (members_view (drop l.key-index l.members))
       ≡ l.initial.out.items ++ members_lines (level_of l.level) l.indent (members_view l.members);
-  utf8 : is_utf8 l.out.items ≡ is_utf8 l.initial.out.items
+  utf8 : is_utf8 l.out.items ≡ is_utf8 l.initial.out.items;
 }
