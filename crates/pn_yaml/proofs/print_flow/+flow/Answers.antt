@@ -1,8 +1,8 @@
-use Rattle.std.proofs.Common.{arith, append-nil, ◌≡◌, ◌∷◌, [], ◌++◌, sym, ap, ◌∙◌, rules, append_assoc}
+use Rattle.std.proofs.Common.{arith, append-nil, ◌≡◌, ◌++◌, sym, ap, ◌∙◌, rules}
 use Rattle.std.proofs.lemmas.Grind.{common_steps}
 use Rattle.std.proofs.lemmas.Result.{on_ok_weaker}
 use Rattle.pn_yaml.specs.Data.{map}
-use Rattle.pn_yaml.specs.Printing.{flow_text, members_text}
+use Rattle.pn_yaml.specs.Printing.{flow_text}
 use Rattle.pn_yaml.specs.View.{view, members_view}
 use Rattle.pn_yaml.proofs.NodeViews.{view-Map, comma, comma_none, comma_some, members_more}
 use Rattle.pn_yaml.proofs.PrintedUtf8.{utf8_ascii}
