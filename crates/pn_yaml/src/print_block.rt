@@ -1,6 +1,5 @@
 // Data as a text of blocks.
-ghost use Rattle.std.specs.Prelude.{false, ◌≡◌, ◌+◌, ◌*◌, ◌≤◌, ◌∷◌, [], ◌++◌, IfOk, OnOk};
-ghost use Rattle.pn_yaml.specs.Bytes.{space};
+ghost use Rattle.std.specs.Prelude.{false, ◌≡◌, ◌+◌, ◌*◌, ◌≤◌, ◌++◌, IfOk, OnOk};
 ghost use Rattle.pn_yaml.specs.Data.{depth, map, members_depth};
 ghost use Rattle.pn_yaml.specs.Laws.{IsPrintable};
 ghost use Rattle.pn_yaml.specs.Levels.{level_of, list_lines};
@@ -33,7 +32,8 @@ fn push_item(out: &mut Vec<u8>, node: &Node) -> Result<(), Memory>
 // The lines of a block list.
 fn push_items(out: &mut Vec<u8>, indent: usize, items: &[Node]) -> Result<(), Memory>
     requires { indent ≤ 128 }
-    ensures { OnOk result (out.new.items ≡ out.old.items ++ items_lines indent (items_view items.now)) }
+    ensures { OnOk result (out.new.items ≡ out.old.items
+        ++ items_lines indent (items_view items.now)) }
 {
     for item in items {
         out.extend_from_slice(spaces(indent))?;
@@ -47,7 +47,8 @@ fn push_items(out: &mut Vec<u8>, indent: usize, items: &[Node]) -> Result<(), Me
 // What stands behind a key's colon, with the lines below, of a list.
 fn push_list(out: &mut Vec<u8>, indent: usize, items: &[Node]) -> Result<(), Memory>
     requires { 2 + indent ≤ 128 }
-    ensures { OnOk result (out.new.items ≡ out.old.items ++ list_lines indent (items_view items.now)) }
+    ensures { OnOk result (out.new.items ≡ out.old.items
+        ++ list_lines indent (items_view items.now)) }
 {
     if items.is_empty() {
         out.extend_from_slice(b" []\n")?;
@@ -77,7 +78,8 @@ fn push_value(
     node: &Node,
 ) -> Result<(), Memory>
     requires { indent + 2 * depth (view node.now) ≤ 128 }
-    ensures { OnOk result (out.new.items ≡ out.old.items ++ value_lines (level_of level) flow indent (view node.now)) }
+    ensures { OnOk result (out.new.items ≡ out.old.items
+        ++ value_lines (level_of level) flow indent (view node.now)) }
 {
     match node {
         Node::Scalar(scalar) => {
@@ -101,7 +103,8 @@ fn push_map(
     members: &[(Text, Node)],
 ) -> Result<(), Memory>
     requires { 2 + indent + 2 * members_depth (members_view members.now) ≤ 128 }
-    ensures { OnOk result (out.new.items ≡ out.old.items ++ value_lines (level_of level) flow indent (map (members_view members.now))) }
+    ensures { OnOk result (out.new.items ≡ out.old.items
+        ++ value_lines (level_of level) flow indent (map (members_view members.now))) }
 {
     if flow || members.is_empty() {
         out.push(b' ')?;
@@ -122,7 +125,8 @@ fn push_members(
     members: &[(Text, Node)],
 ) -> Result<(), Memory>
     requires { indent + 2 * members_depth (members_view members.now) ≤ 128 }
-    ensures { OnOk result (out.new.items ≡ out.old.items ++ members_lines (level_of level) indent (members_view members.now)) }
+    ensures { OnOk result (out.new.items ≡ out.old.items
+        ++ members_lines (level_of level) indent (members_view members.now)) }
 {
     for (key, node) in members {
         push_gap(out, level)?;
@@ -143,7 +147,9 @@ fn push_member(
 ) -> Result<(), Memory>
     requires { indent + 2 * depth (view node.now) ≤ 128 }
     ensures { OnOk result (out.new.items ≡ out.old.items
-        ++ (key_text false key.now ++ value_lines (below (level_of level) key.now) (is_flow_key key.now) indent (view node.now))) }
+        ++ (key_text false key.now
+        ++ value_lines (below (level_of level) key.now) (is_flow_key key.now) indent
+        (view node.now))) }
 {
     push_key(out, false, key)?;
     let name = key.as_str().as_bytes();

@@ -33,7 +33,8 @@ pub(crate) fn push_flow(out: &mut Vec<u8>, node: &Node) -> Result<(), Memory>
 /// A list in brackets.
 #[cycle(flow)]
 pub(crate) fn push_flow_list(out: &mut Vec<u8>, items: &[Node]) -> Result<(), Memory>
-    ensures { OnOk result (out.new.items ≡ out.old.items ++ flow_text (list (items_view items.now))) }
+    ensures { OnOk result (out.new.items ≡ out.old.items
+        ++ flow_text (list (items_view items.now))) }
 {
     out.push(b'[')?;
     for (i, item) in items.iter().enumerate() {
@@ -49,7 +50,8 @@ pub(crate) fn push_flow_list(out: &mut Vec<u8>, items: &[Node]) -> Result<(), Me
 /// A map in braces.
 #[cycle(flow)]
 pub(crate) fn push_flow_map(out: &mut Vec<u8>, members: &[(Text, Node)]) -> Result<(), Memory>
-    ensures { OnOk result (out.new.items ≡ out.old.items ++ flow_text (map (members_view members.now))) }
+    ensures { OnOk result (out.new.items ≡ out.old.items
+        ++ flow_text (map (members_view members.now))) }
 {
     out.push(b'{')?;
     for (i, (key, node)) in members.iter().enumerate() {
@@ -64,7 +66,8 @@ pub(crate) fn push_flow_map(out: &mut Vec<u8>, members: &[(Text, Node)]) -> Resu
 
 #[cycle(flow)]
 fn push_flow_member(out: &mut Vec<u8>, key: &Text, node: &Node) -> Result<(), Memory>
-    ensures { OnOk result (out.new.items ≡ out.old.items ++ (key_text true key.now ++ space ∷ flow_text (view node.now))) }
+    ensures { OnOk result (out.new.items ≡ out.old.items
+        ++ (key_text true key.now ++ space ∷ flow_text (view node.now))) }
 {
     push_key(out, true, key)?;
     out.push(b' ')?;
