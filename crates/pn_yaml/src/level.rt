@@ -1,5 +1,5 @@
 // Where the members of a block map stand.
-ghost use Rattle.std.specs.Prelude.{◌≡◌, ◌≤◌, bytes_eq, length};
+ghost use Rattle.std.specs.Prelude.{◌≡◌, ◌≤◌};
 ghost use Rattle.pn_yaml.specs.Levels.{level_of};
 ghost use Rattle.pn_yaml.specs.Printing.{below, is_flow_key, is_spread_key, spaces};
 

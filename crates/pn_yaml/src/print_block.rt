@@ -1,8 +1,7 @@
 // Data as a text of blocks.
-ghost use Rattle.std.specs.Prelude.{false, ◌≡◌, ◌+◌, ◌*◌, ◌≤◌, ◌∷◌, [], ◌++◌, IfOk, OnOk};
+ghost use Rattle.std.specs.Prelude.{false, ◌≡◌, ◌+◌, ◌*◌, ◌≤◌, ◌++◌, IfOk, OnOk};
 ghost use Rattle.std.specs.Str.{is_utf8};
 ghost use Rattle.pn_yaml.specs.Blocks.{says};
-ghost use Rattle.pn_yaml.specs.Bytes.{space};
 ghost use Rattle.pn_yaml.specs.Data.{depth, map, members_depth};
 ghost use Rattle.pn_yaml.specs.Laws.{IsPrintable};
 ghost use Rattle.pn_yaml.specs.Levels.{level_of, list_lines};
@@ -32,7 +31,8 @@ fn push_item(out: &mut Vec<u8>, node: &Node) -> Result<(), Memory>
 #[tactic(auto, using(crate::proofs::PrintedUtf8::utf8_ascii, crate::proofs::PrintedUtf8::utf8_spaces))]
 fn push_items(out: &mut Vec<u8>, indent: usize, items: &[Node]) -> Result<(), Memory>
     requires { indent ≤ 128 }
-    ensures text { OnOk result (out.new.items ≡ out.old.items ++ items_lines indent (items_view items.now)) }
+    ensures text { OnOk result (out.new.items ≡ out.old.items
+        ++ items_lines indent (items_view items.now)) }
     ensures utf8 { OnOk result (is_utf8 out.new.items ≡ is_utf8 out.old.items) }
 {
     for item in items {
@@ -48,7 +48,8 @@ fn push_items(out: &mut Vec<u8>, indent: usize, items: &[Node]) -> Result<(), Me
 #[tactic(auto, using(crate::proofs::PrintedUtf8::utf8_ascii))]
 fn push_list(out: &mut Vec<u8>, indent: usize, items: &[Node]) -> Result<(), Memory>
     requires { 2 + indent ≤ 128 }
-    ensures text { OnOk result (out.new.items ≡ out.old.items ++ list_lines indent (items_view items.now)) }
+    ensures text { OnOk result (out.new.items ≡ out.old.items
+        ++ list_lines indent (items_view items.now)) }
     ensures utf8 { OnOk result (is_utf8 out.new.items ≡ is_utf8 out.old.items) }
 {
     if items.is_empty() {
@@ -82,7 +83,8 @@ fn push_value(
     node: &Node,
 ) -> Result<(), Memory>
     requires { indent + 2 * depth (view node.now) ≤ 128 }
-    ensures text { OnOk result (out.new.items ≡ out.old.items ++ value_lines (level_of level) flow indent (view node.now)) }
+    ensures text { OnOk result (out.new.items ≡ out.old.items
+        ++ value_lines (level_of level) flow indent (view node.now)) }
     ensures utf8 { OnOk result (is_utf8 out.new.items ≡ is_utf8 out.old.items) }
 {
     match node {
@@ -108,7 +110,8 @@ fn push_map(
     members: &[(Text, Node)],
 ) -> Result<(), Memory>
     requires { 2 + indent + 2 * members_depth (members_view members.now) ≤ 128 }
-    ensures text { OnOk result (out.new.items ≡ out.old.items ++ value_lines (level_of level) flow indent (map (members_view members.now))) }
+    ensures text { OnOk result (out.new.items ≡ out.old.items
+        ++ value_lines (level_of level) flow indent (map (members_view members.now))) }
     ensures utf8 { OnOk result (is_utf8 out.new.items ≡ is_utf8 out.old.items) }
 {
     if flow || members.is_empty() {
@@ -131,7 +134,8 @@ fn push_members(
     members: &[(Text, Node)],
 ) -> Result<(), Memory>
     requires { indent + 2 * members_depth (members_view members.now) ≤ 128 }
-    ensures text { OnOk result (out.new.items ≡ out.old.items ++ members_lines (level_of level) indent (members_view members.now)) }
+    ensures text { OnOk result (out.new.items ≡ out.old.items
+        ++ members_lines (level_of level) indent (members_view members.now)) }
     ensures utf8 { OnOk result (is_utf8 out.new.items ≡ is_utf8 out.old.items) }
 {
     for (key, node) in members {
@@ -153,7 +157,9 @@ fn push_member(
 ) -> Result<(), Memory>
     requires { indent + 2 * depth (view node.now) ≤ 128 }
     ensures text { OnOk result (out.new.items ≡ out.old.items
-        ++ (key_text false key.now ++ value_lines (below (level_of level) key.now) (is_flow_key key.now) indent (view node.now))) }
+        ++ (key_text false key.now
+        ++ value_lines (below (level_of level) key.now) (is_flow_key key.now) indent
+        (view node.now))) }
     ensures utf8 { OnOk result (is_utf8 out.new.items ≡ is_utf8 out.old.items) }
 {
     push_key(out, false, key)?;

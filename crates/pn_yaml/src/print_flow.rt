@@ -38,7 +38,8 @@ pub(crate) fn push_flow(out: &mut Vec<u8>, node: &Node) -> Result<(), Memory>
 #[tactic(auto, using(crate::proofs::PrintedUtf8::utf8_ascii))]
 #[cycle(flow)]
 pub(crate) fn push_flow_list(out: &mut Vec<u8>, items: &[Node]) -> Result<(), Memory>
-    ensures text { OnOk result (out.new.items ≡ out.old.items ++ flow_text (list (items_view items.now))) }
+    ensures text { OnOk result (out.new.items ≡ out.old.items
+        ++ flow_text (list (items_view items.now))) }
     ensures utf8 { OnOk result (is_utf8 out.new.items ≡ is_utf8 out.old.items) }
 {
     out.push(b'[')?;
@@ -56,7 +57,8 @@ pub(crate) fn push_flow_list(out: &mut Vec<u8>, items: &[Node]) -> Result<(), Me
 #[tactic(auto, using(crate::proofs::PrintedUtf8::utf8_ascii))]
 #[cycle(flow)]
 pub(crate) fn push_flow_map(out: &mut Vec<u8>, members: &[(Text, Node)]) -> Result<(), Memory>
-    ensures text { OnOk result (out.new.items ≡ out.old.items ++ flow_text (map (members_view members.now))) }
+    ensures text { OnOk result (out.new.items ≡ out.old.items
+        ++ flow_text (map (members_view members.now))) }
     ensures utf8 { OnOk result (is_utf8 out.new.items ≡ is_utf8 out.old.items) }
 {
     out.push(b'{')?;
@@ -73,7 +75,8 @@ pub(crate) fn push_flow_map(out: &mut Vec<u8>, members: &[(Text, Node)]) -> Resu
 #[tactic(auto, using(crate::proofs::PrintedUtf8::utf8_ascii))]
 #[cycle(flow)]
 fn push_flow_member(out: &mut Vec<u8>, key: &Text, node: &Node) -> Result<(), Memory>
-    ensures text { OnOk result (out.new.items ≡ out.old.items ++ (key_text true key.now ++ space ∷ flow_text (view node.now))) }
+    ensures text { OnOk result (out.new.items ≡ out.old.items
+        ++ (key_text true key.now ++ space ∷ flow_text (view node.now))) }
     ensures utf8 { OnOk result (is_utf8 out.new.items ≡ is_utf8 out.old.items) }
 {
     push_key(out, true, key)?;

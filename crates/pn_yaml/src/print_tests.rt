@@ -51,7 +51,8 @@ fn in_flow(alloc: Global, text: &str, plain: bool) -> Result<Vec<u8>, Memory> {
 
 fn packages(alloc: Global) -> Result<Node, Memory>
     ensures { IfOk result (λ n. view n ≡ list (item (scalar (codes "packages/*") true)
-        (item (list (item (scalar (codes "a") true) (item (map (member (codes "b") (scalar (codes "1") false) no_members)) no_items))) no_items))) }
+        (item (list (item (scalar (codes "a") true)
+        (item (map (member (codes "b") (scalar (codes "1") false) no_members)) no_items))) no_items))) }
 {
     let flow = list(
         alloc,
@@ -64,8 +65,9 @@ fn packages(alloc: Global) -> Result<Node, Memory>
 }
 
 fn scalars(alloc: Global) -> Result<Node, Memory>
-    ensures { IfOk result (λ n. view n ≡ map (member (codes "on") (scalar (codes "yes") false) (member (codes "t") (scalar (codes "true") true)
-        (member (codes "5") (scalar [] true) (member (codes "c") (scalar (codes "a\tb\r\"") true) no_members))))) }
+    ensures { IfOk result (λ n. view n ≡ map (member (codes "on") (scalar (codes "yes") false)
+        (member (codes "t") (scalar (codes "true") true) (member (codes "5") (scalar [] true)
+        (member (codes "c") (scalar (codes "a\tb\r\"") true) no_members))))) }
 {
     map(
         alloc,

@@ -1,4 +1,4 @@
-use Rattle.std.proofs.Common.{arith, append-nil, ◌≡◌, ◌∷◌, [], ◌++◌, sym, ap, ◌∙◌, rules, append_assoc}
+use Rattle.std.proofs.Common.{arith, append-nil, ◌≡◌, ◌++◌, sym, ap, ◌∙◌, rules}
 use Rattle.std.proofs.lemmas.Grind.{common_steps}
 use Rattle.std.proofs.lemmas.Result.{on_ok_weaker}
 use Rattle.pn_yaml.specs.Data.{map}
