@@ -1,5 +1,5 @@
 -- What functions that read answer.
-use Rattle.std.proofs.Common.{◌≡◌, Result, Ok, Err, refl, sym, ap, ◌∙◌, subst}
+use Rattle.std.proofs.Common.{◌≡◌, Result, Err, refl}
 use Rattle.pn_yaml.specs.declared.fault.YamlFault.{YamlFault}
 use Rattle.pn_yaml.specs.declared.fault.YamlFault.TheVariants as fault
 use Rattle.pn_yaml.specs.Outcome.{Fails, Gives, ◌>>=◌}

@@ -1,9 +1,8 @@
 -- What is read leaves no more lines than there were.
-use Rattle.std.proofs.Common.{◌≡◌, ℕ, zero, suc, ◌+◌, ◌<◌, ◌≤◌, ◌&&◌, ◌||◌, Bool, true, false, cond, eqb, leb, ltb, List, [], ◌∷◌, ◌++◌, length, drop, Option, Some, None, Result, Ok, Err, refl, sym, ap, ◌∙◌, subst, arith}
+use Rattle.std.proofs.Common.{◌≡◌, ℕ, zero, suc, ◌≤◌, ◌&&◌, Bool, true, false, cond, eqb, leb, ltb, List, [], ◌∷◌, length, drop, Option, Some, None, Result, Ok, Err, subst, arith}
 use Rattle.pn_yaml.specs.declared.fault.YamlFault.{YamlFault}
 use Rattle.pn_yaml.specs.declared.fault.Why.{Why}
 use Rattle.pn_yaml.specs.declared.fault.Why.TheVariants as why
-use Rattle.pn_yaml.specs.declared.fault.YamlFault.TheVariants as fault
 use Rattle.pn_yaml.specs.declared.scalar.Place.TheVariants as place
 use Rattle.pn_yaml.specs.Blocks.{Reader, Style, with_item, with_member, with_line, block_items, block_member, block_members, list_in, map_in, block_at, width_of, scalar_lines, styled, scalar_block, ending, is_below, nested, unwritten, scalar_on, value_on, is_item, key_at, style_of}
 use Rattle.pn_yaml.specs.Bytes.{is_bare, is_blank, starts, tail_of, unindented, trimmed}

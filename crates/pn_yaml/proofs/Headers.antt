@@ -1,6 +1,6 @@
 -- What opens a scalar of several lines.
-use Rattle.std.proofs.Common.{◌≡◌, ℕ, zero, suc, ◌&&◌, ◌||◌, Bool, true, false, cond, eqb, List, [], ◌∷◌, Option, Some, None, refl, sym, ap, ◌∙◌, subst}
-use Rattle.std.proofs.lemmas.Bool.{eqb-true, and_right, or_right}
+use Rattle.std.proofs.Common.{◌≡◌, ℕ, ◌&&◌, ◌||◌, Bool, true, false, cond, eqb, List, [], ◌∷◌, Option, Some, None, refl, sym, ap, ◌∙◌}
+use Rattle.std.proofs.lemmas.Bool.{eqb-true, and_right}
 use Rattle.pn_yaml.specs.declared.scalar.Place.TheVariants as place
 use Rattle.pn_yaml.specs.Bytes.{starts, is_empty, is_blank, is_bare, unindented, trimmed, is_comment}
 use Rattle.pn_yaml.specs.Blocks.{Style, style_of}

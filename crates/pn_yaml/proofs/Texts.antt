@@ -1,12 +1,12 @@
 -- What whole texts say.
-use Rattle.std.proofs.Common.{◌≡◌, ℕ, Bool, true, false, List, [], ◌∷◌, Result, Ok, Err, refl, sym, ap, ◌∙◌}
+use Rattle.std.proofs.Common.{◌≡◌, ℕ, List, [], ◌∷◌, Result, Ok, Err, sym, ap, ◌∙◌}
 use Rattle.std.specs.Str.{IsUtf8, is_utf8}
 use Rattle.std.proofs.lemmas.Bool.{cond-true, cond-false, false_from_ne_true}
 use Rattle.std.proofs.lemmas.Str.{IsUtf8-from_is_utf8, is_utf8-from_IsUtf8}
 use Rattle.pn_yaml.specs.declared.fault.YamlFault.{YamlFault}
 use Rattle.pn_yaml.specs.declared.fault.YamlFault.TheVariants as fault
 use Rattle.pn_yaml.specs.declared.fault.Why.TheVariants as why
-use Rattle.pn_yaml.specs.Blocks.{alone, root, root_at, says, text_says}
+use Rattle.pn_yaml.specs.Blocks.{alone, root, says, text_says}
 use Rattle.pn_yaml.specs.Data.{Data}
 use Rattle.pn_yaml.specs.Outcome.{◌>>=◌}
 use Rattle.pn_yaml.specs.Rows.{Row, rows_of, first_ahead}

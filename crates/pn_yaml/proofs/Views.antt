@@ -1,5 +1,5 @@
 -- The data of nodes, and the keys of members.
-use Rattle.std.proofs.Common.{◌≡◌, ℕ, List, [], ◌∷◌, ◌++◌, map, refl, sym, ap, ◌∙◌}
+use Rattle.std.proofs.Common.{◌≡◌, ℕ, List, [], ◌∷◌, ◌++◌, map, refl}
 use Rattle.std.proofs.lemmas.List.{map-append}
 use Rattle.pn_yaml.specs.declared.node.Node.{Node}
 use Rattle.pn_yaml.specs.Data.{Data}

@@ -1,5 +1,5 @@
 -- The parts of reading a block.
-use Rattle.std.specs.Prelude.{ℕ, suc, length, ◌==◌, ◌&&◌, Bool, true, false, List, [], ◌∷◌, Result, Ok, Err, if◌then◌else◌}
+use Rattle.std.specs.Prelude.{ℕ, suc, length, ◌==◌, ◌&&◌, Bool, List, [], ◌∷◌, Result, Ok, if◌then◌else◌}
 use Rattle.pn_yaml.specs.declared.fault.Why.{Why}
 use Rattle.pn_yaml.specs.declared.fault.Why.TheVariants as why
 use Rattle.pn_yaml.specs.declared.fault.YamlFault.{YamlFault}

@@ -1,16 +1,16 @@
 -- Blocks: maps and lists of lines with one indentation, and scalars of several lines.
-use Rattle.std.specs.Prelude.{ℕ, zero, suc, ◌==◌, ◌&&◌, ◌||◌, nat_lt, nat_le, max, Bool, true, false, not, List, [], ◌∷◌, ◌++◌, length, drop, Option, Some, None, Result, Ok, Err, if◌then◌else◌, bytes_eq, codes}
+use Rattle.std.specs.Prelude.{ℕ, zero, suc, ◌==◌, ◌&&◌, ◌||◌, nat_lt, nat_le, Bool, true, false, List, [], ◌∷◌, ◌++◌, length, drop, Option, Some, None, Result, Ok, Err, if◌then◌else◌, bytes_eq, codes}
 use Rattle.std.specs.Str.{is_utf8}
 use Rattle.pn_yaml.specs.declared.fault.Why.{Why}
 use Rattle.pn_yaml.specs.declared.fault.Why.TheVariants as why
 use Rattle.pn_yaml.specs.declared.fault.YamlFault.{YamlFault}
 use Rattle.pn_yaml.specs.declared.fault.YamlFault.TheVariants as fault
 use Rattle.pn_yaml.specs.declared.scalar.Place.TheVariants as place
-use Rattle.pn_yaml.specs.Bytes.{space, starts, is_empty, tail_of, indentation, unindented, is_blank, trimmed, ends_word, is_bare}
+use Rattle.pn_yaml.specs.Bytes.{space, starts, tail_of, unindented, is_blank, trimmed, ends_word, is_bare}
 use Rattle.pn_yaml.specs.Data.{Data, scalar, list, map, Items, no_items, item, Members, no_members, member, is_among}
 use Rattle.pn_yaml.specs.Outcome.{◌>>=◌, wrong}
 use Rattle.pn_yaml.specs.Rows.{Row, rows_of, row_indentation, content, ahead, first_ahead}
-use Rattle.pn_yaml.specs.Scalars.{Word, word_at, plain_front, is_colon, on_some}
+use Rattle.pn_yaml.specs.Scalars.{word_at, plain_front, is_colon, on_some}
 use Rattle.pn_yaml.specs.Flow.{flow_at, is_flow}
 
 -- a `-` and what is behind it

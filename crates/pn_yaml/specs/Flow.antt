@@ -1,6 +1,5 @@
 -- Flow values: lists in brackets and maps in braces, on one line.
-use Rattle.std.specs.Prelude.{ℕ, zero, suc, ◌&&◌, ◌||◌, Bool, true, false, not, List, [], ◌∷◌, length, Result, Ok, Err, if◌then◌else◌}
-use Rattle.pn_yaml.specs.declared.fault.Why.{Why}
+use Rattle.std.specs.Prelude.{ℕ, zero, suc, ◌&&◌, ◌||◌, Bool, not, List, [], ◌∷◌, length, Result, Ok, Err, if◌then◌else◌}
 use Rattle.pn_yaml.specs.declared.fault.Why.TheVariants as why
 use Rattle.pn_yaml.specs.declared.fault.YamlFault.{YamlFault}
 use Rattle.pn_yaml.specs.declared.fault.YamlFault.TheVariants as fault
@@ -8,7 +7,7 @@ use Rattle.pn_yaml.specs.declared.scalar.Place.TheVariants as place
 use Rattle.pn_yaml.specs.Bytes.{space, starts, is_empty, tail_of, unindented}
 use Rattle.pn_yaml.specs.Data.{Data, scalar, list, map, Items, no_items, item, Members, no_members, member, is_among}
 use Rattle.pn_yaml.specs.Outcome.{◌>>=◌, wrong}
-use Rattle.pn_yaml.specs.Scalars.{Word, word_at, is_colon}
+use Rattle.pn_yaml.specs.Scalars.{word_at, is_colon}
 
 -- what reads a value at the front of a text, and gives what is behind it
 abbrev pub Reader : Type 0

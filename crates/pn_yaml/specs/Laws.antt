@@ -1,5 +1,5 @@
 -- What is printed is read back.
-use Rattle.std.specs.Prelude.{◌≡◌, ◌≤◌, ℕ, List, true, Result, Ok}
+use Rattle.std.specs.Prelude.{◌≡◌, ◌≤◌, ℕ, List, true, Ok}
 use Rattle.pn_yaml.specs.Data.{Data, depth, is_map, are_apart}
 use Rattle.pn_yaml.specs.Blocks.{text_says}
 use Rattle.pn_yaml.specs.Printing.{printed, marked}

@@ -1,5 +1,5 @@
 -- How a text's form is tested in one pass.
-use Rattle.std.specs.Prelude.{ℕ, nat_le, ◌==◌, ◌&&◌, ◌||◌, Bool, true, false, not, List, [], ◌∷◌, codes, if◌then◌else◌}
+use Rattle.std.specs.Prelude.{ℕ, nat_le, ◌==◌, ◌&&◌, ◌||◌, Bool, false, not, List, [], ◌∷◌, codes, if◌then◌else◌}
 use Rattle.pn_yaml.specs.Bytes.{space}
 use Rattle.pn_yaml.specs.Words.{is_one_of, is_shown}
 

@@ -1,6 +1,6 @@
 -- Worked data: how it is printed, and lockfiles that are read back.
-use Rattle.std.specs.Prelude.{◌≡◌, refl, ℕ, List, [], ◌∷◌, ◌++◌, Bool, true, false, Result, Ok, Err, codes}
-use Rattle.pn_yaml.specs.Data.{Data, scalar, list, map, Items, no_items, item, Members, no_members, member}
+use Rattle.std.specs.Prelude.{◌≡◌, refl, [], true, false, Ok, codes}
+use Rattle.pn_yaml.specs.Data.{Data, scalar, list, map, no_items, item, no_members, member}
 use Rattle.pn_yaml.specs.Blocks.{text_says}
 use Rattle.pn_yaml.specs.Printing.{printed}
 

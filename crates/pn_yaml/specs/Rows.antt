@@ -1,9 +1,8 @@
 -- The lines of a text.
-use Rattle.std.specs.Prelude.{ℕ, suc, ◌==◌, ◌&&◌, ◌||◌, Bool, true, false, List, [], ◌∷◌, drop, Result, Ok, Err, if◌then◌else◌}
-use Rattle.pn_yaml.specs.declared.fault.Why.{Why}
+use Rattle.std.specs.Prelude.{ℕ, suc, ◌==◌, ◌&&◌, ◌||◌, Bool, false, List, [], ◌∷◌, Result, Ok, if◌then◌else◌}
 use Rattle.pn_yaml.specs.declared.fault.Why.TheVariants as why
 use Rattle.pn_yaml.specs.declared.fault.YamlFault.{YamlFault}
-use Rattle.pn_yaml.specs.Bytes.{starts, is_empty, tail_of, indentation, unindented, is_bare}
+use Rattle.pn_yaml.specs.Bytes.{starts, is_empty, indentation, unindented, is_bare}
 use Rattle.pn_yaml.specs.Outcome.{wrong}
 
 -- a line without its end, and its number, counted from 1

@@ -1,8 +1,8 @@
 -- Worked texts: what they say, or their fault.
-use Rattle.std.specs.Prelude.{◌≡◌, refl, ℕ, List, [], ◌∷◌, ◌++◌, Bool, true, false, Result, Ok, Err, codes}
+use Rattle.std.specs.Prelude.{◌≡◌, refl, [], true, false, Ok, Err, codes}
 use Rattle.pn_yaml.specs.declared.fault.Why.TheVariants as why
 use Rattle.pn_yaml.specs.declared.fault.YamlFault.TheVariants as fault
-use Rattle.pn_yaml.specs.Data.{Data, scalar, list, map, Items, no_items, item, Members, no_members, member}
+use Rattle.pn_yaml.specs.Data.{scalar, list, map, no_items, item, no_members, member}
 use Rattle.pn_yaml.specs.Blocks.{text_says}
 
 pub no_bytes : text_says (codes "") ≡ Ok (map no_members)

@@ -1,12 +1,12 @@
 -- Scalars: plain, in single quotes, and in double quotes.
-use Rattle.std.specs.Prelude.{ℕ, suc, ◌+◌, ◌-◌, ◌*◌, ◌==◌, ◌&&◌, ◌||◌, nat_le, Bool, true, false, not, List, [], ◌∷◌, ◌++◌, Option, Some, None, Result, Ok, Err, if◌then◌else◌, bytes_eq, codes, encode_utf8}
+use Rattle.std.specs.Prelude.{ℕ, ◌+◌, ◌-◌, ◌*◌, ◌==◌, ◌&&◌, ◌||◌, nat_le, Bool, true, false, List, [], ◌∷◌, ◌++◌, Option, Some, None, Result, Ok, Err, if◌then◌else◌, encode_utf8}
 use Rattle.pn_yaml.specs.declared.fault.Why.{Why}
 use Rattle.pn_yaml.specs.declared.fault.Why.TheVariants as why
 use Rattle.pn_yaml.specs.declared.fault.YamlFault.{YamlFault}
 use Rattle.pn_yaml.specs.declared.scalar.Place.{Place}
 use Rattle.pn_yaml.specs.declared.scalar.Place.TheVariants as place
 use Rattle.pn_yaml.specs.Bytes.{starts, is_empty, tail_of, trimmed, is_comment, ends_word}
-use Rattle.pn_yaml.specs.Outcome.{◌>>=◌, wrong}
+use Rattle.pn_yaml.specs.Outcome.{wrong}
 
 -- a scalar's text, and whether it is written plain
 pub record Word : Type 0 where

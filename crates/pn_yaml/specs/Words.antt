@@ -1,6 +1,6 @@
 -- How scalars are printed.
-use Rattle.std.specs.Prelude.{ℕ, ◌+◌, ◌-◌, ◌/◌, ◌%◌, ◌==◌, ◌&&◌, ◌||◌, nat_le, nat_lt, Bool, true, false, not, List, [], ◌∷◌, ◌++◌, if◌then◌else◌, bytes_eq, codes}
-use Rattle.std.specs.List.{list_all, list_any, flat_map, count_by}
+use Rattle.std.specs.Prelude.{ℕ, ◌+◌, ◌/◌, ◌%◌, ◌==◌, ◌&&◌, ◌||◌, nat_le, nat_lt, Bool, true, false, not, List, [], ◌∷◌, ◌++◌, if◌then◌else◌, bytes_eq, codes}
+use Rattle.std.specs.List.{list_all, list_any, count_by}
 use Rattle.pn_yaml.specs.Bytes.{space, starts}
 
 abbrev pub is_one_of : List ℕ → ℕ → Bool

@@ -1,11 +1,11 @@
-use Rattle.std.proofs.Common.{◌≡◌, ◌∙◌, ℕ, suc, ◌+◌, ◌<◌, ◌≤◌, ◌∷◌, ◌++◌, [], List, length, ap, sym, subst, arith, refl, true, false, Option, Result, Ok, Err}
+use Rattle.std.proofs.Common.{◌≡◌, ◌∙◌, ℕ, suc, ◌≤◌, ◌∷◌, ◌++◌, [], List, length, ap, sym, subst, arith, true, false, Option, Result, Ok}
 use Rattle.std.proofs.lemmas.Result.{err_from_is_err_and}
 use Rattle.pn_yaml.specs.declared.fault.YamlFault.{YamlFault}
 use Rattle.pn_yaml.specs.declared.line.Front.{Front}
 use Rattle.pn_yaml.specs.declared.node.Node.{Node}
 use Rattle.pn_yaml.specs.BlockSteps.{block_key, items_from, members_from}
 use Rattle.pn_yaml.specs.Blocks.{value_on, list_in, map_in}
-use Rattle.pn_yaml.specs.Bytes.{tail_of, unindented}
+use Rattle.pn_yaml.specs.Bytes.{tail_of}
 use Rattle.pn_yaml.specs.Cursor.{row_of, rows_ahead, rows_left, node_ahead}
 use Rattle.pn_yaml.specs.Data.{Data}
 use Rattle.pn_yaml.specs.KeySets.{AreKeys, seen_of}

@@ -1,7 +1,6 @@
-use Rattle.std.proofs.Common.{◌≡◌, ◌≤◌, ◌<◌, ◌∙◌, ◌++◌, ◌∷◌, [], ap, sym, List, ℕ, arith, drop, Err, refl}
+use Rattle.std.proofs.Common.{◌≡◌, ◌∙◌, ◌++◌, ◌∷◌, [], ap, sym, arith, drop, Err, refl}
 use Rattle.std.specs.Prelude.{string_bytes}
 use Rattle.pn_yaml.specs.Cursor.{rows_left, row_of}
-use Rattle.pn_yaml.specs.Rows.{row_indentation}
 use Rattle.pn_yaml.proofs.Exits.{fails_is}
 use Rattle.pn_yaml.proofs.Filling.{added_end, added_stop, added_shallow, added_more, filled_below}
 use Rattle.pn_yaml.proofs.literal.add_lines.Goals as goal

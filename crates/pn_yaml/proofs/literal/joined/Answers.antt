@@ -1,9 +1,8 @@
-use Rattle.std.proofs.Common.{◌≡◌, ◌∙◌, ◌++◌, ◌∷◌, [], ap, sym, List, ℕ, arith, drop, Ok, refl}
+use Rattle.std.proofs.Common.{◌≡◌, ◌∙◌, sym, arith, drop, refl}
 use Rattle.std.specs.Prelude.{string_bytes}
 use Rattle.std.proofs.lemmas.Result.{err_from_is_err_and}
 use Rattle.pn_yaml.specs.Bytes.{indentation}
 use Rattle.pn_yaml.specs.Cursor.{rows_left, row_of, rows_ahead}
-use Rattle.pn_yaml.specs.Rows.{Row}
 use Rattle.pn_yaml.proofs.Indentations.{drop_indentation}
 use Rattle.pn_yaml.proofs.Exits.{exit_gives, same_outcome}
 use Rattle.pn_yaml.proofs.Filling.{joined_end, joined_stop, joined_more}

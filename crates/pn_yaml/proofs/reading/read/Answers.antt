@@ -1,6 +1,6 @@
-use Rattle.std.proofs.Common.{◌∙◌, ap, sym, subst, Result, ℕ, List}
+use Rattle.std.proofs.Common.{◌∙◌, ap, sym, subst, Result}
 use Rattle.pn_yaml.specs.declared.fault.YamlFault.{YamlFault}
-use Rattle.pn_yaml.specs.Blocks.{says, text_says}
+use Rattle.pn_yaml.specs.Blocks.{text_says}
 use Rattle.pn_yaml.specs.Data.{Data}
 use Rattle.pn_yaml.specs.Outcome.{Gives}
 use Rattle.pn_yaml.specs.View.{view}

@@ -1,8 +1,8 @@
-use Rattle.std.proofs.Common.{◌≡◌, ◌∙◌, ◌∷◌, [], Option, Result, Ok, ap, sym, subst}
+use Rattle.std.proofs.Common.{◌≡◌, ◌∙◌, ◌∷◌, [], Option, Ok, ap}
 use Rattle.std.proofs.lemmas.Result.{err_from_is_err_and}
 use Rattle.pn_yaml.specs.declared.line.Front.{Front}
 use Rattle.pn_yaml.specs.Blocks.{alone, root_at, text_says}
-use Rattle.pn_yaml.specs.Cursor.{node_ahead, row_of, rows_ahead, rows_left}
+use Rattle.pn_yaml.specs.Cursor.{row_of, rows_ahead, rows_left}
 use Rattle.pn_yaml.specs.Rows.{first_ahead}
 use Rattle.pn_yaml.specs.View.{view}
 use Rattle.pn_yaml.proofs.Exits.{exit_gives, fails_on}

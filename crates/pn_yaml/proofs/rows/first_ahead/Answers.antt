@@ -1,6 +1,5 @@
-use Rattle.std.proofs.Common.{◌∙◌, sym, subst, Result}
-use Rattle.pn_yaml.specs.Cursor.{rows_ahead, rows_left, row_of}
-use Rattle.pn_yaml.specs.Outcome.{Gives}
+use Rattle.std.proofs.Common.{◌∙◌, sym}
+use Rattle.pn_yaml.specs.Cursor.{rows_left, row_of}
 use Rattle.pn_yaml.proofs.LineEnds.{first_ahead_same}
 use Rattle.pn_yaml.proofs.rows.first_ahead.Goals as goal
 
