@@ -73,7 +73,12 @@ fn each_form_is_read(rt: HostRuntime) -> Result<(), Fail> {
     let table = [
         ("a: b: c # d", "a", "b: c", true),
         ("'a': 'it''s' # d", "a", "it's", false),
-        ("a: \"\\\\\\\"\\/\\n\\t\\r\\0\\x41\\u00e9\"", "a", "\\\"/\n\t\r\0Aé", false),
+        (
+            "a: \"\\\\\\\"\\/\\n\\t\\r\\0\\x41\\u00e9\"",
+            "a",
+            "\\\"/\n\t\r\0Aé",
+            false,
+        ),
         ("a:\n  b:\n    c: d\n", "a>b>c", "d", true),
         ("a:\n- x\n- y\nb: z\n", "a>1", "y", true),
         ("a:\n  - x\n  - y: z\n", "a>1", "y: z", true),
@@ -193,9 +198,21 @@ fn a_lockfile_is_read(rt: HostRuntime) -> Result<(), Fail> {
     let table = [
         ("lockfileVersion", "9.0", false),
         ("settings>autoInstallPeers", "true", true),
-        ("importers>.>dependencies>@acme/ui>version", "link:../ui", true),
-        ("importers>.>dependencies>react-dom>specifier", "catalog:", false),
-        ("importers>.>dependencies>react-dom>version", "18.3.1(react@18.3.1)", true),
+        (
+            "importers>.>dependencies>@acme/ui>version",
+            "link:../ui",
+            true,
+        ),
+        (
+            "importers>.>dependencies>react-dom>specifier",
+            "catalog:",
+            false,
+        ),
+        (
+            "importers>.>dependencies>react-dom>version",
+            "18.3.1(react@18.3.1)",
+            true,
+        ),
         ("packages>b@1.0.0>resolution>integrity", "sha512-y", true),
         ("snapshots>a@1.0.0>dependencies>b", "1.0.0", true),
     ];
