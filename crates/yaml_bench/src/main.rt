@@ -2,6 +2,10 @@
 //! from run to run. With the argument `text` it prints that lockfile.
 #![tactic(auto)]
 
+ghost use Rattle.std.specs.Prelude.{◌≡◌, ◌≤◌, true};
+ghost use Rattle.pn_yaml.specs.Data.{are_apart, depth};
+ghost use Rattle.pn_yaml.specs.View.{view};
+
 use pn_yaml::{Node, print, read};
 use std::alloc::{AllocError, Global};
 use std::time::{Duration, Instant};
@@ -24,7 +28,9 @@ fn push_package(alloc: Global, text: &mut String, i: u32) -> Result<(), AllocErr
 fn push_snapshot(alloc: Global, text: &mut String, i: u32) -> Result<(), AllocError> {
     let line = format!(in alloc; "  package-{i:05}@1.2.3:\n    dependencies:\n")?;
     text.push_str(line.as_str())?;
-    text.push_str("      '@scope/first': 1.0.0\n      package-00000: 1.2.3(react@18.3.1)\n      react: 18.3.1\n\n")
+    text.push_str(
+        "      '@scope/first': 1.0.0\n      package-00000: 1.2.3(react@18.3.1)\n      react: 18.3.1\n\n",
+    )
 }
 
 fn lockfile(alloc: Global) -> Result<String, AllocError> {
@@ -45,7 +51,10 @@ fn print_speed(rt: &HostRuntime, what: &str, bytes: usize, time: Duration) -> io
     println!(rt; "{what}: {speed} MB/s")
 }
 
-fn measure_print(rt: &HostRuntime, node: &Node) -> io::Result<()> {
+fn measure_print(rt: &HostRuntime, node: &Node) -> io::Result<()>
+    requires apart { are_apart (view node.now) ≡ true }
+    requires flat { depth (view node.now) ≤ 64 }
+{
     let Node::Map(_) = node else {
         return println!(rt; "the text is no map");
     };
@@ -77,7 +86,9 @@ fn has_word(rt: &HostRuntime, wanted: &str) -> io::Result<bool> {
 fn main(rt: HostRuntime) -> io::Result<()> {
     let is_bench = has_word(&rt, "bench")?;
     if !is_bench && !has_word(&rt, "text")? {
-        return println!(rt; "yaml_bench bench: how fast a lockfile is read and printed; yaml_bench text: that lockfile");
+        return println!(rt;
+            "yaml_bench bench: how fast a lockfile is read and printed; yaml_bench text: that lockfile"
+        );
     }
     let Ok(text) = lockfile(rt.alloc()) else {
         return println!(rt; "out of memory");

@@ -4,6 +4,10 @@
 //! one is named, and the fault.
 #![tactic(auto)]
 
+ghost use Rattle.std.specs.Prelude.{◌≡◌, ◌≤◌, true};
+ghost use Rattle.pn_yaml.specs.Data.{are_apart, depth};
+ghost use Rattle.pn_yaml.specs.View.{view};
+
 use pn_yaml::{Node, Why, YamlFault, print, read};
 use std::alloc::{AllocError, Global};
 use std::io;
@@ -44,7 +48,10 @@ fn push_node(alloc: Global, out: &mut String, node: &Node) -> Result<(), AllocEr
 }
 
 // The digits of the text that is printed of a map.
-fn push_printed(alloc: Global, out: &mut String, node: &Node) -> Result<(), AllocError> {
+fn push_printed(alloc: Global, out: &mut String, node: &Node) -> Result<(), AllocError>
+    requires apart { are_apart (view node.now) ≡ true }
+    requires flat { depth (view node.now) ≤ 64 }
+{
     out.push('\t')?;
     match node {
         Node::Map(_) => match print(alloc, node) {
