@@ -167,7 +167,8 @@ fn push_member(
     push_value(out, below(level, name), is_flow_key(name), indent, node)
 }
 
-/// The text of a map.
+/// The text of a map in which no map has a key twice, nested at most 64 deep. It is read as the same map, each scalar
+/// plain where it was printed plain.
 pub fn print(alloc: Global, node: &Node) -> Result<Vec<u8>, Memory>
     requires { IsPrintable (view node.now) }
     ensures text { IfOk result (λ v. v.items ≡ printed (view node.now)) }
