@@ -271,16 +271,30 @@ def compare_changed(yaml, program, rnd):
     return problems
 
 
+def sources():
+    """The files that programs are built of."""
+    yield os.path.join(TOP, "crates.txt")
+    for folder, folders, files in os.walk(os.path.join(TOP, "crates")):
+        folders[:] = [name for name in folders if name != "out"]
+        yield from (os.path.join(folder, name) for name in files if name.endswith((".rt", ".antt")))
+
+
+def is_built(path):
+    return os.path.exists(path) and all(os.path.getmtime(one) <= os.path.getmtime(path) for one in sources())
+
+
 def built():
-    """The path of the program, which is built where it is missing; None where the kit's command is missing too."""
+    """The path of the program, which is built where it is missing or a source is newer; None without the kit's command."""
     folder = os.path.join(TOP, "crates", "yaml_check")
     path = os.path.join(folder, "out", "yaml_check")
-    if not os.path.exists(path):
-        if shutil.which("rt") is None:
-            return None
-        ended = subprocess.run(["rt", "run"], cwd=folder, stdin=subprocess.DEVNULL, stdout=subprocess.PIPE, stderr=subprocess.STDOUT)
-        if ended.returncode != 0:
-            raise SystemExit(f"check-yaml: yaml_check can't be built: {ended.stdout.decode()}")
+    if is_built(path):
+        return path
+    if shutil.which("rt") is None:
+        return None
+    ended = subprocess.run(["rt", "run"], cwd=folder, stdin=subprocess.DEVNULL, stdout=subprocess.PIPE, stderr=subprocess.STDOUT)
+    if ended.returncode != 0 or not os.path.exists(path):
+        raise SystemExit(f"check-yaml: yaml_check can't be built: {ended.stdout.decode()}")
+    os.utime(path)
     return path
 
 
