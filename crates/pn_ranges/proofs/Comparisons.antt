@@ -4,7 +4,8 @@ use Rattle.std.specs.Prelude.{◌==◌, ◌&&◌, not, if◌then◌else◌}
 use Rattle.pn_ranges.specs.declared.comparator.Sign.{Sign}
 use Rattle.pn_ranges.specs.declared.comparator.Sign.TheVariants as x
 use Rattle.pn_ranges.specs.Bytes.{is_space, front_of, behind, starts_with}
-use Rattle.pn_ranges.specs.Grammar.{Begins, IsCompared, IsComparator, IsEnd, IsSign, may_join}
+use Rattle.pn_ranges.specs.Grammar.{IsComparator, IsEnd, IsSign, may_join}
+use Rattle.pn_ranges.specs.Reading.{Begins, IsCompared}
 use Rattle.pn_ranges.specs.Grammar as g
 use Rattle.pn_ranges.specs.Places.{Turn, later, lead, operand, first_fault, fault_signed, is_exact, turn_of}
 use Rattle.pn_ranges.specs.Table.{Named}

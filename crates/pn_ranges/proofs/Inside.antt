@@ -9,9 +9,9 @@ use Rattle.semver.specs.Grammar.{is_build_identifier, is_pre_identifier}
 use Rattle.pn_ranges.specs.declared.fault.Stop.{Stop}
 use Rattle.pn_ranges.specs.declared.fault.Stop.TheVariants as stop
 use Rattle.pn_ranges.specs.Bytes.{is_body, is_digit, is_lead, is_space, is_stop, behind, front_of, number_at, number_from, starts_with}
-use Rattle.pn_ranges.specs.Grammar.{AreIdentifiers, Begins, Fronted, IsEnd, IsPart}
+use Rattle.pn_ranges.specs.Grammar.{AreIdentifiers, IsEnd, IsPart}
 use Rattle.pn_ranges.specs.Places.{State, lead, later, step, after_step, is_digits, is_large, fault_after, first_fault}
-use Rattle.pn_ranges.specs.Reading.{left_of, signed}
+use Rattle.pn_ranges.specs.Reading.{Begins, Fronted, left_of, signed}
 use Rattle.pn_ranges.specs.Refusals.{IsLeftOf}
 use Rattle.pn_ranges.specs.Table.{Named}
 use Rattle.pn_ranges.specs.Unread.{NoCompared, NoEnd, NoUpper}

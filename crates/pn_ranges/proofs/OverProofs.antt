@@ -7,7 +7,8 @@ use Rattle.std.proofs.lemmas.Bool.Decides.{nat_tests}
 use Rattle.pn_ranges.specs.declared.comparator.Sign.{Sign}
 use Rattle.pn_ranges.specs.declared.comparator.Sign.TheVariants as x
 use Rattle.pn_ranges.specs.Bytes.{is_body, is_lead, is_open, is_space, behind, front_of, starts_with}
-use Rattle.pn_ranges.specs.Grammar.{Begins, IsPart, IsPartial, IsSign, IsTail, may_join}
+use Rattle.pn_ranges.specs.Grammar.{IsPart, IsPartial, IsSign, IsTail, may_join}
+use Rattle.pn_ranges.specs.Reading.{Begins}
 use Rattle.pn_ranges.specs.Grammar as g
 use Rattle.pn_ranges.specs.Overs.{OverAt, OverUpper, PartsAt, PlacedAt, parts_of}
 use Rattle.pn_ranges.specs.Overs as o

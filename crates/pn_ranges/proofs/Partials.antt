@@ -2,7 +2,8 @@
 use Rattle.std.proofs.Common.{◌≡◌, ℕ, false, List, [], ◌∷◌, ◌++◌, Option, None, refl, sym, ap, subst, ◌∙◌, append_assoc}
 use Rattle.std.specs.Prelude.{◌==◌}
 use Rattle.pn_ranges.specs.Bytes.{is_lead, front_of, behind, starts_with}
-use Rattle.pn_ranges.specs.Grammar.{Begins, IsPart, IsPartial, IsTail, IsEnd}
+use Rattle.pn_ranges.specs.Grammar.{IsPart, IsPartial, IsTail, IsEnd}
+use Rattle.pn_ranges.specs.Reading.{Begins}
 use Rattle.pn_ranges.specs.Grammar as g
 use Rattle.pn_ranges.specs.Places.{Turn, lead, dot, whole, first_fault, fault_after}
 use Rattle.pn_ranges.specs.Table.{Named, named}

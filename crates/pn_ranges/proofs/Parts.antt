@@ -3,7 +3,8 @@ use Rattle.std.proofs.Common.{◌≡◌, ◌≤◌, ◌<◌, ◌^◌, ◌*◌, �
 use Rattle.std.specs.Prelude.{◌==◌}
 use Rattle.std.proofs.lemmas.Bool.Decides.{nat_tests}
 use Rattle.pn_ranges.specs.Bytes.{is_wild, is_digit, front_of, behind, number_at, number_from}
-use Rattle.pn_ranges.specs.Grammar.{IsNumber, IsPart, Begins}
+use Rattle.pn_ranges.specs.Grammar.{IsNumber, IsPart}
+use Rattle.pn_ranges.specs.Reading.{Begins}
 use Rattle.pn_ranges.specs.Grammar as g
 use Rattle.pn_ranges.specs.Places.{Turn, dot, whole, digits, part_step, is_large, first_fault}
 use Rattle.pn_ranges.proofs.Fronts.{front-behind, front-all, behind-stops, number-front, number-next, number-grows}

@@ -10,10 +10,10 @@ use Rattle.pn_ranges.specs.declared.comparator.Sign.{Sign}
 use Rattle.pn_ranges.specs.declared.fault.Stop.{Stop}
 use Rattle.pn_ranges.specs.Bytes.{is_space, front_of, behind, starts_with}
 use Rattle.pn_ranges.specs.Edges.{HasPre}
-use Rattle.pn_ranges.specs.Grammar.{AreGaps, AreIdentifiers, AreSpaces, Begins, IsCompared, IsComparator, IsEnd, IsPartial, IsTail}
+use Rattle.pn_ranges.specs.Grammar.{AreGaps, AreIdentifiers, AreSpaces, IsComparator, IsEnd, IsPartial, IsTail}
 use Rattle.pn_ranges.specs.Grammar as g
 use Rattle.pn_ranges.specs.Places.{Turn, first, later, upper, after, closed, dash, far, gap, lead, fault_after, first_fault}
-use Rattle.pn_ranges.specs.Reading.{LowerAt, SpacedAt, UpperAt}
+use Rattle.pn_ranges.specs.Reading.{Begins, IsCompared, LowerAt, SpacedAt, UpperAt}
 use Rattle.pn_ranges.specs.Unread.{ends_range}
 use Rattle.pn_ranges.specs.Table.{Named, named}
 use Rattle.pn_ranges.proofs.Fronts.{front-behind, front-all, behind-stops, behind-next}

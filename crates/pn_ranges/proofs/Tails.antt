@@ -5,7 +5,8 @@ use Rattle.std.proofs.Math.Seq.{take-append_seam}
 use Rattle.std.proofs.lemmas.Bool.{cases_Bool}
 use Rattle.semver.specs.Grammar.{is_build_identifier, is_identifier_byte, is_pre_identifier}
 use Rattle.pn_ranges.specs.Bytes.{is_word, starts_with}
-use Rattle.pn_ranges.specs.Grammar.{AreIdentifiers, Begins, Fronted, IsBuild, IsTail, Spanned}
+use Rattle.pn_ranges.specs.Grammar.{AreIdentifiers, IsBuild, IsTail}
+use Rattle.pn_ranges.specs.Reading.{Begins, Fronted, Spanned}
 use Rattle.pn_ranges.specs.Grammar as g
 use Rattle.pn_ranges.specs.Places.{Turn, whole, hyphen, pre, plus, build, first_fault, fault_after, fault_build}
 use Rattle.pn_ranges.proofs.Steps.{after-same}

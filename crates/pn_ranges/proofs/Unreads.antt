@@ -6,7 +6,7 @@ use Rattle.pn_ranges.specs.declared.comparator.Sign.TheVariants as x
 use Rattle.pn_ranges.specs.declared.fault.Stop.TheVariants as stop
 use Rattle.pn_ranges.specs.Bytes.{is_space, behind, starts_with}
 use Rattle.pn_ranges.specs.Forms as f
-use Rattle.pn_ranges.specs.Grammar.{AreGaps, AreSpaces, Begins, IsCompared, IsComparator, IsEnd}
+use Rattle.pn_ranges.specs.Grammar.{AreGaps, AreSpaces, IsComparator, IsEnd}
 use Rattle.pn_ranges.specs.Grammar as g
 use Rattle.pn_ranges.specs.Limits.{Limit}
 use Rattle.pn_ranges.specs.Overs.{HasOver, NoLower, OverAt, OverLater, OverRange, OverUpper}

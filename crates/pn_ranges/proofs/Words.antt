@@ -8,7 +8,7 @@ use Rattle.semver.specs.Grammar.{is_build_identifier, is_identifier_byte, is_pre
 use Rattle.semver.specs.Order.{is_numeric}
 use Rattle.pn_ranges.specs.declared.fault.Stop.TheVariants.{Byte}
 use Rattle.pn_ranges.specs.Bytes.{is_digit, front_of, behind, starts_with}
-use Rattle.pn_ranges.specs.Grammar.{Spanned}
+use Rattle.pn_ranges.specs.Reading.{Spanned}
 use Rattle.pn_ranges.specs.Places.{Turn, hyphen, naught, zeros, pre, plus, build, first_fault}
 use Rattle.pn_ranges.proofs.Fronts.{front-behind, front-all, behind-stops}
 use Rattle.pn_ranges.proofs.Steps.{run}

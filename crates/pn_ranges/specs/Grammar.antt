@@ -76,9 +76,6 @@ pub data IsComparator : List ℕ → Sign → Named → Type 0 where
   comparator : (o s t : List ℕ) (x : Sign) (n : Named) → IsSign o x → AreSpaces s → IsEnd t n
       → (may_join x && starts_with (λ b. b == 61) (s ++ t)) ≡ false → IsComparator (o ++ (s ++ t)) x n
 
-abbrev pub IsCompared : List ℕ → Sign × Named → Type 0
-IsCompared t v = IsComparator t v.0 v.1
-
 -- comparators with spaces between them: how many they are, and their limits
 pub data AreComparators : List ℕ → ℕ → List Limit → Type 0 where
   one : (t : List ℕ) (x : Sign) (n : Named) → IsComparator t x n → all_fit (limits x n) ≡ true → AreComparators t 1 (limits x n)
@@ -103,21 +100,3 @@ pub record Spells (text : List ℕ) (ranges : List (List Limit)) : Type 0 where
   pub count : ℕ
   pub read : AreRanges text count ranges
   pub few : count ≤ 1024
-
--- a text begins with something that spells v, and the rest is behind it
-pub record Begins {V : Type 0} (Spelled : List ℕ → V → Type 0) (text : List ℕ) (v : V) (rest : List ℕ) : Type 0 where
-  pub front : List ℕ
-  pub split : text ≡ front ++ rest
-  pub spelled : Spelled front v
-
--- a text begins with bytes that pass a test, and the rest is behind them
-pub record Spanned (right : List ℕ → Bool) (text rest : List ℕ) : Type 0 where
-  pub front : List ℕ
-  pub split : text ≡ front ++ rest
-  pub passes : right front ≡ true
-
--- a text begins so, and the rest is behind that
-pub record Fronted (Right : List ℕ → Type 0) (text rest : List ℕ) : Type 0 where
-  pub front : List ℕ
-  pub split : text ≡ front ++ rest
-  pub is : Right front

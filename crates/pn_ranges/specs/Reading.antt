@@ -1,5 +1,5 @@
 -- What the reader has read, and where it stops.
-use Rattle.std.specs.Prelude.{◌≡◌, ◌⊎◌, ◌==◌, ℕ, ◌+◌, true, false, List, [], ◌∷◌, ◌++◌, Option, Some, if◌then◌else◌}
+use Rattle.std.specs.Prelude.{◌≡◌, ◌⊎◌, ◌==◌, ℕ, ◌+◌, Bool, true, false, List, [], ◌∷◌, ◌++◌, Option, Some, if◌then◌else◌}
 use Rattle.pn_ranges.specs.declared.comparator.Sign.{Sign}
 use Rattle.pn_ranges.specs.declared.comparator.Sign.TheVariants as x
 use Rattle.pn_ranges.specs.declared.fault.Stop.{Stop}
@@ -9,6 +9,28 @@ use Rattle.pn_ranges.specs.Grammar.{AreComparators, AreGaps, AreRanges, AreSpace
 use Rattle.pn_ranges.specs.Limits.{Limit}
 use Rattle.pn_ranges.specs.Table.{Named, all_fit, between}
 use Rattle.pn_ranges.specs.Unread.{ends_range}
+
+-- a text begins with something that spells v, and the rest is behind it
+pub record Begins {V : Type 0} (Spelled : List ℕ → V → Type 0) (text : List ℕ) (v : V) (rest : List ℕ) : Type 0 where
+  pub front : List ℕ
+  pub split : text ≡ front ++ rest
+  pub spelled : Spelled front v
+
+-- a text begins with bytes that pass a test, and the rest is behind them
+pub record Spanned (right : List ℕ → Bool) (text rest : List ℕ) : Type 0 where
+  pub front : List ℕ
+  pub split : text ≡ front ++ rest
+  pub passes : right front ≡ true
+
+-- a text begins so, and the rest is behind that
+pub record Fronted (Right : List ℕ → Type 0) (text rest : List ℕ) : Type 0 where
+  pub front : List ℕ
+  pub split : text ≡ front ++ rest
+  pub is : Right front
+
+-- a comparator and what it says
+abbrev pub IsCompared : List ℕ → Sign × Named → Type 0
+IsCompared t v = IsComparator t v.0 v.1
 
 -- an operator, which a `=` makes longer, and what is behind it
 abbrev pub joined : Sign → Sign → List ℕ → Sign × List ℕ

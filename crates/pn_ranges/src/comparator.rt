@@ -2,10 +2,10 @@
 ghost use Rattle.std.specs.Prelude.{◌≡◌, ◌<◌, ◌==◌, ◌&&◌, not, ℕ, List, length, IfOk, IfErr, OnErr, IsTrue, Some, true, false};
 ghost use Rattle.pn_ranges.specs.Bytes.{is_body, is_space, starts_with};
 ghost use Rattle.pn_ranges.specs.Edges.{left_at, named_by};
-ghost use Rattle.pn_ranges.specs.Grammar.{Begins, IsCompared, IsEnd, IsSign, may_join};
+ghost use Rattle.pn_ranges.specs.Grammar.{IsEnd, IsSign, may_join};
 ghost use Rattle.pn_ranges.specs.Overs.{OverAt};
 ghost use Rattle.pn_ranges.specs.Places.{Turn, fault_after, fault_comparator, fault_signed, is_exact, turn_of};
-ghost use Rattle.pn_ranges.specs.Reading.{signed};
+ghost use Rattle.pn_ranges.specs.Reading.{Begins, IsCompared, signed};
 ghost use Rattle.pn_ranges.specs.Table.{all_fit, limits, named, raised};
 ghost use Rattle.pn_ranges.specs.Unread.{NoCompared};
 

@@ -2,9 +2,9 @@
 ghost use Rattle.std.specs.Prelude.{◌≡◌, ◌≤◌, ◌==◌, ◌&&◌, ℕ, [], ◌∷◌, List, length, Some, IfOk, IfErr, true, false};
 ghost use Rattle.semver.specs.Grammar.{is_build_identifier, is_identifier_byte, is_pre_identifier};
 ghost use Rattle.pn_ranges.specs.Bytes.{behind, is_body, is_digit, is_word, starts_with};
-ghost use Rattle.pn_ranges.specs.Grammar.{AreIdentifiers, Begins, IsTail, Spanned};
+ghost use Rattle.pn_ranges.specs.Grammar.{AreIdentifiers, IsTail};
 ghost use Rattle.pn_ranges.specs.Places.{Turn, build, fault_after, first_fault, hyphen, plus, pre, whole};
-ghost use Rattle.pn_ranges.specs.Reading.{left_of};
+ghost use Rattle.pn_ranges.specs.Reading.{Begins, Spanned, left_of};
 
 use crate::fault::Stop;
 use crate::part::{is_digit, next};

@@ -1,9 +1,9 @@
 // The parts of a version: numbers and wildcards.
 ghost use Rattle.std.specs.Prelude.{◌≡◌, ◌==◌, ◌≤◌, ◌<◌, ◌^◌, ◌*◌, ◌+◌, ◌-◌, ℕ, suc, length, [], ◌∷◌, MatchOption, Some, IfOk, IfErr, IfSome, IfNone, true, false};
 ghost use Rattle.pn_ranges.specs.Bytes.{behind, is_body, is_digit, is_lead, is_space, is_wild, number_at, starts_with};
-ghost use Rattle.pn_ranges.specs.Grammar.{Begins, IsPart};
+ghost use Rattle.pn_ranges.specs.Grammar.{IsPart};
 ghost use Rattle.pn_ranges.specs.Places.{Turn, dot, whole, first_fault};
-ghost use Rattle.pn_ranges.specs.Reading.{left_of};
+ghost use Rattle.pn_ranges.specs.Reading.{Begins, left_of};
 
 use crate::fault::Stop;
 

@@ -2,10 +2,10 @@
 ghost use Rattle.std.specs.Prelude.{◌≡◌, ◌<◌, ◌≤◌, length, IfOk, IfErr, OnErr, Some, true};
 ghost use Rattle.pn_ranges.specs.Bytes.{behind, is_body, starts_with};
 ghost use Rattle.pn_ranges.specs.Edges.{left_at, named_by};
-ghost use Rattle.pn_ranges.specs.Grammar.{Begins, IsEnd, IsPartial};
+ghost use Rattle.pn_ranges.specs.Grammar.{IsEnd, IsPartial};
 ghost use Rattle.pn_ranges.specs.Overs.{PartsAt};
 ghost use Rattle.pn_ranges.specs.Places.{Turn, dot, fault_after, first_fault, lead};
-ghost use Rattle.pn_ranges.specs.Reading.{left_of};
+ghost use Rattle.pn_ranges.specs.Reading.{Begins, left_of};
 ghost use Rattle.pn_ranges.specs.Table.{named};
 ghost use Rattle.pn_ranges.specs.Unread.{NoEnd};
 
@@ -14,7 +14,7 @@ use crate::part::{behind_leads, part, strip};
 use crate::tail::tail;
 
 /// The parts as written, None for a wildcard or a missing one, the pre-release, and how many bytes were left
-/// from each part on.
+/// from each part on; for a missing one, from the first part on.
 #[derive(Clone, Copy)]
 pub struct Partial<'a> {
     pub major: Option<u64>,

@@ -2,10 +2,10 @@
 ghost use Rattle.std.specs.Prelude.{◌≡◌, ◌==◌, ◌&&◌, ◌≤◌, ◌<◌, ◌+◌, ◌⊎◌, ℕ, List, [], ◌∷◌, ◌++◌, length, IfOk, IfErr, OnErr, OnOk, MatchOption, IsTrue, Some, None, true, false};
 ghost use Rattle.pn_ranges.specs.Bytes.{behind, is_body, is_space, starts_with};
 ghost use Rattle.pn_ranges.specs.Edges.{HasPre, IsRaised, left_at, named_by};
-ghost use Rattle.pn_ranges.specs.Grammar.{Begins, IsEnd};
+ghost use Rattle.pn_ranges.specs.Grammar.{IsEnd};
 ghost use Rattle.pn_ranges.specs.Overs.{OverLater, OverRange, OverUpper};
 ghost use Rattle.pn_ranges.specs.Places.{Turn, after, closed, dash, fault_after, fault_comparator, first_fault, gap, start, turn_of, upper};
-ghost use Rattle.pn_ranges.specs.Reading.{ComparatorsAt, HyphenAt, LowerAt, RangeAt, SpacedAt, Stops, UpperAt};
+ghost use Rattle.pn_ranges.specs.Reading.{Begins, ComparatorsAt, HyphenAt, LowerAt, RangeAt, SpacedAt, Stops, UpperAt};
 ghost use Rattle.pn_ranges.specs.Table.{all_fit, limits, raised, upper_limits, upper_raised};
 ghost use Rattle.pn_ranges.specs.Unread.{NeverTo, NoCompared, NoLater, NoRest, NoUpper, RangeTo, ends_range};
 

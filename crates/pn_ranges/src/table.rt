@@ -175,10 +175,7 @@ fn or_all<'a>(low: Option<Edge<'a>>, high: Option<Edge<'a>>) -> Edges<'a>
     ensures pre { EdgesHavePre result }
 {
     match (low, high) {
-        (None, None) => Edges {
-            low: Some(at_least(0, 0, 0)),
-            high: None,
-        },
+        (None, None) => any_edges(Sign::Exact),
         (low, high) => Edges { low, high },
     }
 }

@@ -2,9 +2,9 @@
 ghost use Rattle.std.specs.Prelude.{◌≡◌, ◌≤◌, length, IfOk, IfErr, Some, false};
 ghost use Rattle.semver.specs.Grammar.{is_build_identifier, is_pre_identifier};
 ghost use Rattle.pn_ranges.specs.Bytes.{behind, is_body, is_word, starts_with};
-ghost use Rattle.pn_ranges.specs.Grammar.{AreIdentifiers, Begins, Fronted, IsBuild, IsTail};
+ghost use Rattle.pn_ranges.specs.Grammar.{AreIdentifiers, IsBuild, IsTail};
 ghost use Rattle.pn_ranges.specs.Places.{Turn, build, fault_after, fault_build, first_fault, hyphen, plus, pre, whole};
-ghost use Rattle.pn_ranges.specs.Reading.{left_of};
+ghost use Rattle.pn_ranges.specs.Reading.{Begins, Fronted, left_of};
 
 use crate::fault::Stop;
 use crate::identifiers::{build_identifier, pre_identifier};

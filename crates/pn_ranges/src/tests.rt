@@ -14,6 +14,16 @@ fn holds(alloc: Global, range: &str, version: &str) -> Option<bool> {
     Some(range.holds(&version))
 }
 
+fn any_holds(alloc: Global, version: &str) -> Option<bool> {
+    let Ok(range) = Range::any(alloc) else {
+        return None;
+    };
+    let Ok(version) = Version::parse(alloc, version) else {
+        return None;
+    };
+    Some(range.holds(&version))
+}
+
 fn fault(alloc: Global, range: &str) -> Option<RangeFault> {
     match Range::read(alloc, range) {
         Ok(_) => None,
@@ -203,5 +213,20 @@ fn comparators_are_counted(rt: HostRuntime) -> Result<(), Fail> {
     assert_eq!(rt; fault(alloc, text.as_str()), None);
     text.push_str(" 1")?;
     assert_eq!(rt; fault(alloc, text.as_str()), Some(RangeFault::TooMany));
+    let at = text.len();
+    text.push_str("!")?;
+    assert_eq!(rt; fault(alloc, text.as_str()), Some(RangeFault::BadByte(at)));
+    let mut led = String::from_str(alloc, "!")?;
+    led.push_str(text.as_str())?;
+    assert_eq!(rt; fault(alloc, led.as_str()), Some(RangeFault::BadByte(0)));
+    Ok(())
+}
+
+#[test]
+fn any_holds_each_release(rt: HostRuntime) -> Result<(), Fail> {
+    let alloc = rt.alloc();
+    assert_eq!(rt; any_holds(alloc, "0.0.0"), Some(true));
+    assert_eq!(rt; any_holds(alloc, "9.9.9"), Some(true));
+    assert_eq!(rt; any_holds(alloc, "1.2.3-a"), Some(false));
     Ok(())
 }

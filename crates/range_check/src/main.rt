@@ -1,5 +1,6 @@
 //! Reads lines of a version range, a tab and a version, and prints for each `true` where the range holds the version,
-//! `false` where it doesn't, and `refused` where one of the two can't be read.
+//! `false` where it doesn't, `refused` where one of the two can't be read, and `out of memory` where there is none for the
+//! range.
 #![tactic(auto)]
 
 use pn_ranges::{Range, RangeFault};

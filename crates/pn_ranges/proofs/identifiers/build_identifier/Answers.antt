@@ -1,7 +1,7 @@
 use Rattle.std.proofs.Common.{sym, ap, ◌∙◌, subst}
 use Rattle.semver.specs.Grammar.{is_build_identifier, is_identifier_byte}
 use Rattle.pn_ranges.specs.Bytes.{is_body, starts_with}
-use Rattle.pn_ranges.specs.Grammar.{Spanned}
+use Rattle.pn_ranges.specs.Reading.{Spanned}
 use Rattle.pn_ranges.specs.Places.{build, first_fault}
 use Rattle.pn_ranges.proofs.Fronts.{behind-le, behind-stops}
 use Rattle.pn_ranges.proofs.Words.{build-read, build-goes}

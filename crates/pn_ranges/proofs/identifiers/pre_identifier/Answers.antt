@@ -3,7 +3,7 @@ use Rattle.std.proofs.Common.{◌≤◌, List, ℕ, sym, ap, ◌∙◌, subst, S
 use Rattle.semver.specs.Grammar.{is_pre_identifier, is_identifier_byte}
 use Rattle.pn_ranges.specs.declared.fault.Stop.TheVariants.{Byte}
 use Rattle.pn_ranges.specs.Bytes.{behind, is_body, is_digit, starts_with}
-use Rattle.pn_ranges.specs.Grammar.{Spanned}
+use Rattle.pn_ranges.specs.Reading.{Spanned}
 use Rattle.pn_ranges.specs.Places.{pre, first_fault}
 use Rattle.pn_ranges.proofs.Fronts.{behind-le, behind-stops}
 use Rattle.pn_ranges.proofs.Words.{and_left, pre-read, pre-goes, zero-read, zero-goes, zero-stops}

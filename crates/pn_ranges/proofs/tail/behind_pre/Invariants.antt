@@ -1,7 +1,8 @@
 use Rattle.std.proofs.Common.{◌≡◌, length, false}
 use Rattle.semver.specs.Grammar.{is_identifier_byte, is_pre_identifier}
 use Rattle.pn_ranges.specs.Bytes.{starts_with}
-use Rattle.pn_ranges.specs.Grammar.{AreIdentifiers, Fronted}
+use Rattle.pn_ranges.specs.Grammar.{AreIdentifiers}
+use Rattle.pn_ranges.specs.Reading.{Fronted}
 use Rattle.pn_ranges.specs.Places.{Turn, first_fault, hyphen, pre}
 use Rattle.pn_ranges.proofs.tail.behind_pre.Given as goal
 
