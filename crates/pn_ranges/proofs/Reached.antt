@@ -12,7 +12,7 @@ use Rattle.pn_ranges.specs.Grammar as g
 use Rattle.pn_ranges.specs.Limits.{Limit}
 use Rattle.pn_ranges.specs.Overs.{HasOver, NoLower, OverAt, OverLater, OverRange, OverUpper, PartFrom, PartOf}
 use Rattle.pn_ranges.specs.Overs as o
-use Rattle.pn_ranges.specs.Table.{Named, any, full, major, minor, all_fit, limits, raised, upper_limits, upper_raised}
+use Rattle.pn_ranges.specs.Table.{Named, all_fit, limits, raised, upper_limits, upper_raised}
 use Rattle.pn_ranges.specs.Unread.{Closes, LaterTo, RangeTo, UpperTo, ends_range}
 use Rattle.pn_ranges.specs.Unread as u
 use Rattle.pn_ranges.proofs.Bars.{no-tail, no_bar, spaced-bars, tail-of}
@@ -20,7 +20,7 @@ use Rattle.pn_ranges.proofs.Closings.{between-upper, closes-body, closes-spaces,
 use Rattle.pn_ranges.proofs.Counts.{bars-split, comparator-open, end-open, hyphen-split, more-split, not-hyphen, same-first}
 use Rattle.pn_ranges.proofs.Fronts.{behind-append, behind-le, front-all, front-behind}
 use Rattle.pn_ranges.proofs.OverProofs.{shut, space-shut}
-use Rattle.pn_ranges.proofs.Same.{Same, Shape, all-weaken, bare, behind-all, comparator-shape, end-shape, first-more, first-not, head-same, partial-first, same-end, same-fit, same-shape, same-split, shape-at, upper-bare}
+use Rattle.pn_ranges.proofs.Same.{Same, Shape, all-weaken, behind-all, comparator-shape, end-shape, first-more, first-not, head-same, partial-first, same-end, same-fit, same-shape, same-split, shape-at}
 
 -- from a part of a version on
 abbrev pub past_dot : List ℕ → List ℕ
@@ -79,24 +79,11 @@ spaces-past (b ∷ t) = elim (cases_Bool (is_space b)) [
   | inr other ↦ rw other refl
 ]
 
-raised-bare : (s : Sign) (n : Named) → raised s n ≡ raised s (bare n)
-raised-bare s any = refl
-raised-bare s (major a) = refl
-raised-bare s (minor a b) = refl
-raised-bare s (full a b c p) = refl
-
-upper-raised : (n : Named) → upper_raised n ≡ upper_raised (bare n)
-upper-raised any = refl
-upper-raised (major a) = refl
-upper-raised (minor a b) = refl
-upper-raised (full a b c p) = refl
-
-at-place : (text rest : List ℕ) (left : ℕ) (a : OverAt text rest left) → left ≡ place (raised a.sign (bare a.name)) text
+at-place : (text rest : List ℕ) (left : ℕ) (a : OverAt text rest left) → left ≡ place (raised a.sign a.name) text
 at-place text rest left a =
     a.place ∙ ap (λ (y : List ℕ). length y) (part-is a.front a.from rest a.name (raised a.sign a.name) a.part)
     ∙ ap (λ (z : List ℕ). length (from_part (raised a.sign a.name) (behind shut z))) (sym a.split)
     ∙ ap (λ (z : List ℕ). length (from_part (raised a.sign a.name) z)) (sym (spaces-past text))
-    ∙ ap (λ k. place k text) (raised-bare a.sign a.name)
 
 -- the comparator that comes first
 pub record Begun (text : List ℕ) : Type 0 where
@@ -123,7 +110,7 @@ same-begun y r t q s z n m a h c k e =
 
 -- what may stand behind a first comparator
 pub data Onward (s : Sign) (n : Named) (text r : List ℕ) (to : Option ℕ) : Type 0 where
-  over : all_fit (limits s n) ≡ false → to ≡ Some (place (raised s (bare n)) text) → Onward s n text r to
+  over : all_fit (limits s n) ≡ false → to ≡ Some (place (raised s n) text) → Onward s n text r to
   last : all_fit (limits s n) ≡ true → Closes r → to ≡ None → Onward s n text r to
   more : (v : List ℕ) → all_fit (limits s n) ≡ true → LaterTo v to → behind is_space v ≡ behind is_space r → Onward s n text r to
 
@@ -132,7 +119,7 @@ pub onward : (text y r : List ℕ) (s : Sign) (n : Named) (to : Option ℕ) → 
 onward text y r s n _ (u.raised _ rest left a) k h e =
     let q = same-begun y r a.front rest s a.sign n a.name k h a.read a.ends (ap (behind is_space) (sym a.split) ∙ e) in
     over (same-fit s a.sign n a.name r rest q ∙ a.large)
-    (ap (λ z. Some z) (at-place text rest left a ∙ ap (λ z. place (raised z (bare a.name)) text) (sym q.sign) ∙ ap (λ z. place (raised s z) text) (sym q.named)))
+    (ap (λ z. Some z) (at-place text rest left a ∙ ap (λ z. place (raised z a.name) text) (sym q.sign) ∙ ap (λ z. place (raised s z) text) (sym q.named)))
 onward _ y r s n _ (u.last t rest z m c fit l) k h e =
     let q = same-begun y r t rest s z n m k h c (closes-body rest l) e in
     last (same-fit s z n m r rest q ∙ fit) (subst Closes (sym q.rest) l) refl
@@ -152,7 +139,7 @@ later-unique text _ (u.raised _ rest left k) other b w e =
     let shape = subst (λ z. Shape z k.sign k.name rest) (sym k.split) (comparator-shape k.front k.sign k.name k.read rest) in
     elim (onward other text rest k.sign k.name b w shape k.ends e) [
       | over fit is ↦
-          ap (λ z. Some z) (at-place text rest left k ∙ ap (λ (z : List ℕ). length (from_part (raised k.sign (bare k.name)) (behind shut z))) (sym e)) ∙ sym is
+          ap (λ z. Some z) (at-place text rest left k ∙ ap (λ (z : List ℕ). length (from_part (raised k.sign k.name) (behind shut z))) (sym e)) ∙ sym is
       | last fit h is ↦ absurd (both (all_fit (limits k.sign k.name)) fit k.large)
       | more v fit w2 q ↦ absurd (both (all_fit (limits k.sign k.name)) fit k.large)
     ]
@@ -178,14 +165,13 @@ pub record UpperIs (text : List ℕ) (to : Option ℕ) : Type 0 where
   pub split : behind is_space text ≡ front ++ rest
   pub is : IsEnd front name
   pub ends : starts_with is_body rest ≡ false
-  pub fit : ((all_fit (upper_limits name) ≡ false) × (to ≡ Some (place (upper_raised (bare name)) text))) ⊎ ((all_fit (upper_limits name) ≡ true) × Closes rest × (to ≡ None))
+  pub fit : ((all_fit (upper_limits name) ≡ false) × (to ≡ Some (place (upper_raised name) text))) ⊎ ((all_fit (upper_limits name) ≡ true) × Closes rest × (to ≡ None))
 
-upper-place : (text : List ℕ) (left : ℕ) (a : OverUpper text left) → left ≡ place (upper_raised (bare a.name)) text
+upper-place : (text : List ℕ) (left : ℕ) (a : OverUpper text left) → left ≡ place (upper_raised a.name) text
 upper-place text left a =
     a.place ∙ ap (λ (y : List ℕ). length y) (part-is a.front a.from a.rest a.name (upper_raised a.name) a.part)
     ∙ ap (λ (z : List ℕ). length (from_part (upper_raised a.name) (behind shut z)))
     (sym (head-same a.front a.rest a.name a.read) ∙ sym (behind-append is_space a.gaps (a.front ++ a.rest) a.apart.spaces) ∙ ap (behind is_space) (sym a.split))
-    ∙ ap (λ k. place k text) (upper-raised a.name)
 
 pub upper-is : (text : List ℕ) (to : Option ℕ) → UpperTo text to → UpperIs text to
 upper-is text _ (u.raised _ left a) = record {
@@ -212,7 +198,7 @@ upper-unique text a b v w =
     let p = upper-is text a v in
     let q = upper-is text b w in
     let e = same-end p.front q.front p.rest q.rest p.name q.name p.is q.is p.ends q.ends (sym p.split ∙ q.split) in
-    let fits : all_fit (upper_limits p.name) ≡ all_fit (upper_limits q.name) = upper-bare p.name ∙ ap (λ z. all_fit (upper_limits z)) e.0 ∙ sym (upper-bare q.name) in
+    let fits : all_fit (upper_limits p.name) ≡ all_fit (upper_limits q.name) = ap (λ z. all_fit (upper_limits z)) e.0 in
     elim p.fit [
       | inl x ↦ elim q.fit [
         | inl y ↦ x.1 ∙ ap (λ z. Some (place (upper_raised z) text)) e.0 ∙ sym y.1
@@ -361,14 +347,14 @@ place-short k t =
     omega arith
 
 later-within : (text : List ℕ) (left : ℕ) → OverLater text left → left ≤ length text
-later-within text left (o.here _ rest _ a) = let e = at-place text rest left a in let h = place-short (raised a.sign (bare a.name)) text in omega arith
+later-within text left (o.here _ rest _ a) = let e = at-place text rest left a in let h = place-short (raised a.sign a.name) text in omega arith
 later-within _ left (o.behind t s v z n _ c fit a w) = let h = later-within v left w in let l = length-append t (s ++ v) in let m = length-append s v in omega arith
 
 range-within : (text : List ℕ) (left : ℕ) → OverRange text left → left ≤ length text
 range-within text left (o.comparators _ _ l w) = later-within text left w
 range-within _ left (o.upper a s v n _ i p w) =
     let e = upper-place v left w in
-    let h = place-short (upper_raised (bare w.name)) v in
+    let h = place-short (upper_raised w.name) v in
     let l = length-append a (s ++ 45 ∷ v) in
     let m = length-append s (45 ∷ v) in
     omega arith

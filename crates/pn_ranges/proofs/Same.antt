@@ -7,11 +7,11 @@ use Rattle.std.proofs.lemmas.Bool.Decides.{nat_tests}
 use Rattle.semver.specs.Grammar.{is_build_identifier, is_identifier_byte, is_pre_identifier}
 use Rattle.pn_ranges.specs.declared.comparator.Sign.{Sign}
 use Rattle.pn_ranges.specs.declared.comparator.Sign.TheVariants as x
-use Rattle.pn_ranges.specs.Bytes.{is_space, is_lead, is_wild, is_digit, is_body, is_open, front_of, behind, starts_with, number_at, number_from}
+use Rattle.pn_ranges.specs.Bytes.{is_space, is_lead, is_wild, is_digit, is_body, is_open, is_word, front_of, behind, starts_with, number_at, number_from}
 use Rattle.pn_ranges.specs.Grammar.{AreIdentifiers, AreSpaces, IsBuild, IsComparator, IsEnd, IsNumber, IsPart, IsPartial, IsSign, IsTail}
 use Rattle.pn_ranges.specs.Grammar as g
 use Rattle.pn_ranges.specs.Reading.{joined, signed, tilded}
-use Rattle.pn_ranges.specs.Table.{Named, any, full, major, minor, named, limits, upper_limits, all_fit}
+use Rattle.pn_ranges.specs.Table.{Named, named, limits, all_fit}
 use Rattle.pn_ranges.proofs.Accepts.{number-of}
 use Rattle.pn_ranges.proofs.Fronts.{behind-append, behind-same, behind-stops}
 use Rattle.pn_ranges.proofs.OverProofs.{all-append}
@@ -40,9 +40,12 @@ part-body _ _ (g.number t n i low) = number t n i where
   number _ _ g.zero = refl
   number _ _ (g.counted b bs d z all) = all-weaken is_digit is_body digit-body (b ∷ bs) (rw (d, all) refl)
 
+ids-all : (test : ℕ → Bool) → test 46 ≡ true → (right : List ℕ → Bool) → ((y : List ℕ) → right y ≡ true → list_all test y ≡ true) → (t : List ℕ) → AreIdentifiers right t → list_all test t ≡ true
+ids-all test dot right f _ (g.one y h) = f y h
+ids-all test dot right f _ (g.more y t h a) = all-append test y (46 ∷ t) (f y h) (rw dot (ids-all test dot right f t a))
+
 pub ids-body : (right : List ℕ → Bool) → ((y : List ℕ) → right y ≡ true → list_all is_body y ≡ true) → (t : List ℕ) → AreIdentifiers right t → list_all is_body t ≡ true
-ids-body right f _ (g.one y h) = f y h
-ids-body right f _ (g.more y t h a) = all-append is_body y (46 ∷ t) (f y h) (ids-body right f t a)
+ids-body right f t a = ids-all is_body refl right f t a
 
 pub build-id : (y : List ℕ) → is_build_identifier y ≡ true → list_all is_body y ≡ true
 build-id y h = all-weaken is_identifier_byte is_body word-body y (and_right _ (list_all is_identifier_byte y) h)
@@ -110,22 +113,31 @@ part-value _ _ (g.number t n i low) r h = number t n i where
     rw (digit-tame b d) (behind-all is_digit (b ∷ bs) r (rw (d, all) refl) h),
   )
 
--- what is named, without the pre-release
-abbrev pub bare : Named → Named
-bare any = any
-bare (major a) = major a
-bare (minor a b) = minor a b
-bare (full a b c p) = full a b c []
+-- the pre-release behind three parts
+abbrev pre_at : List ℕ → List ℕ
+pre_at [] = []
+pre_at (b ∷ t) = if b == 45 then front_of is_word t else []
 
-bare-named : (a b c : Option ℕ) (p : List ℕ) → bare (named a b c p) ≡ named a b c []
-bare-named None b c p = refl
-bare-named (Some a) None c p = refl
-bare-named (Some a) (Some b) None p = refl
-bare-named (Some a) (Some b) (Some c) p = refl
+id-word : (b : ℕ) → is_identifier_byte b ≡ true → is_word b ≡ true
+id-word b h = rw h refl
 
+pre-word : (y : List ℕ) → is_pre_identifier y ≡ true → list_all is_word y ≡ true
+pre-word y h = all-weaken is_identifier_byte is_word id-word y (and_right _ (list_all is_identifier_byte y) (and_left (is_build_identifier y) _ h))
+
+pre-is : (s p : List ℕ) → IsTail s p → pre_at s ≡ p
+pre-is _ _ (g.bare t b) = build t b where
+  build : (t : List ℕ) → IsBuild t → pre_at t ≡ []
+  build _ g.absent = refl
+  build _ (g.build u a) = refl
+pre-is _ _ (g.pre p t a b) = front-append is_word p t (ids-all is_word refl is_pre_identifier pre-word p a) (build t b) where
+  build : (t : List ℕ) → IsBuild t → starts_with is_word t ≡ false
+  build _ g.absent = refl
+  build _ (g.build u a) = refl
+
+-- what is named
 abbrev third : Option ℕ → Option ℕ → List ℕ → Named
 third a b [] = named a b None []
-third a b (d ∷ w) = if d == 46 then named a b (value w) [] else named a b None []
+third a b (d ∷ w) = if d == 46 then named a b (value w) (pre_at (past w)) else named a b None []
 
 abbrev second : Option ℕ → List ℕ → Named
 second a [] = named a None None []
@@ -147,13 +159,13 @@ tail-digit _ _ (g.bare t b) = build t b where
   build _ (g.build u a) = refl
 tail-digit _ _ (g.pre p t a b) = refl
 
-partial-names : (t : List ℕ) (n : Named) → IsPartial t n → names t ≡ bare n
-partial-names _ _ (g.one t a i) = ap names (sym (append-nil t)) ∙ first-part t [] a i refl ∙ sym (bare-named a None None [])
-partial-names _ _ (g.two t u a b i j) =
-    first-part t (46 ∷ u) a i refl ∙ ap (λ z. second a (46 ∷ z)) (sym (append-nil u)) ∙ second-part a b u [] j refl ∙ sym (bare-named a b None [])
+partial-names : (t : List ℕ) (n : Named) → IsPartial t n → names t ≡ n
+partial-names _ _ (g.one t a i) = ap names (sym (append-nil t)) ∙ first-part t [] a i refl
+partial-names _ _ (g.two t u a b i j) = first-part t (46 ∷ u) a i refl ∙ ap (λ z. second a (46 ∷ z)) (sym (append-nil u)) ∙ second-part a b u [] j refl
 partial-names _ _ (g.three t u w s p a b c i j k l) =
+    let v = part-value w c k s (tail-digit s p l) in
     first-part t (46 ∷ (u ++ 46 ∷ (w ++ s))) a i refl ∙ second-part a b u (46 ∷ (w ++ s)) j refl
-    ∙ ap (λ z. named a b z []) (part-value w c k s (tail-digit s p l)).0 ∙ sym (bare-named a b c p)
+    ∙ ap (λ z. named a b z (pre_at (past (w ++ s)))) v.0 ∙ ap (λ z. named a b c z) (ap pre_at v.1 ∙ pre-is s p l)
 
 -- what an end begins with
 abbrev pub is_head : ℕ → Bool
@@ -202,34 +214,15 @@ end-first _ n (g.end (b ∷ l) t _ all p) = record { byte = b; rest = l ++ t; sp
 open-lead : (b : ℕ) → is_open b ≡ true → is_lead b ≡ false
 open-lead b h = grind (arith, nat_tests)
 
-end-names : (t : List ℕ) (n : Named) → IsEnd t n → names (behind is_lead t) ≡ bare n
+end-names : (t : List ℕ) (n : Named) → IsEnd t n → names (behind is_lead t) ≡ n
 end-names _ n (g.end l t _ all p) = ap names (behind-all is_lead l t all (first-not is_open is_lead t (partial-first t n p) open-lead)) ∙ partial-names t n p
 
--- two readings of an end name the same but for the pre-release
+-- two readings of an end name the same
 pub same-end : (t u r q : List ℕ) (n m : Named) → IsEnd t n → IsEnd u m → starts_with is_body r ≡ false → starts_with is_body q ≡ false → t ++ r ≡ u ++ q
-    → (bare n ≡ bare m) × (r ≡ q)
+    → (n ≡ m) × (r ≡ q)
 same-end t u r q n m i j h k e =
     let s = same-split is_body t r u q (end-body t n i) h (end-body u m j) k e in
     (sym (end-names t n i) ∙ ap (λ z. names (behind is_lead z)) s.0 ∙ end-names u m j, s.1)
-
--- limits don't raise a pre-release
-pub fit-bare : (s : Sign) (n : Named) → all_fit (limits s n) ≡ all_fit (limits s (bare n))
-fit-bare s any = refl
-fit-bare s (major a) = refl
-fit-bare s (minor a b) = refl
-fit-bare x.Exact (full a b c p) = refl
-fit-bare x.Less (full a b c p) = refl
-fit-bare x.AtMost (full a b c p) = refl
-fit-bare x.Greater (full a b c p) = refl
-fit-bare x.AtLeast (full a b c p) = refl
-fit-bare x.Tilde (full a b c p) = refl
-fit-bare x.Caret (full a b c p) = refl
-
-pub upper-bare : (n : Named) → all_fit (upper_limits n) ≡ all_fit (upper_limits (bare n))
-upper-bare any = refl
-upper-bare (major a) = refl
-upper-bare (minor a b) = refl
-upper-bare (full a b c p) = refl
 
 -- the operator at the front
 joined-alone : (s l : Sign) (t : List ℕ) → starts_with (λ b. b == 61) t ≡ false → joined s l t ≡ (s, t)
@@ -338,7 +331,7 @@ comparator-shape _ s n (g.comparator _ p t _ _ g.caret a i j) r = record { end =
 -- two readings of a comparator
 pub record Same (s z : Sign) (n m : Named) (r q : List ℕ) : Type 0 where
   pub sign : s ≡ z
-  pub named : bare n ≡ bare m
+  pub named : n ≡ m
   pub rest : r ≡ q
 
 pub same-shape : (text r q : List ℕ) (s z : Sign) (n m : Named) → Shape text s n r → Shape text z m q → starts_with is_body r ≡ false → starts_with is_body q ≡ false → Same s z n m r q
@@ -346,8 +339,11 @@ same-shape text r q s z n m a b h k =
     let e = same-end a.end b.end r q n m a.is b.is h k (sym a.split ∙ b.split) in
     record { sign = sym a.sign ∙ b.sign; named = e.0; rest = e.1 }
 
+pub same-limits : (s z : Sign) (n m : Named) (r q : List ℕ) → Same s z n m r q → limits s n ≡ limits z m
+same-limits s z n m r q e = ap (λ y. limits y n) e.sign ∙ ap (limits z) e.named
+
 pub same-fit : (s z : Sign) (n m : Named) (r q : List ℕ) → Same s z n m r q → all_fit (limits s n) ≡ all_fit (limits z m)
-same-fit s z n m r q e = fit-bare s n ∙ ap (λ y. all_fit (limits y (bare n))) e.sign ∙ ap (λ y. all_fit (limits z y)) e.named ∙ sym (fit-bare z m)
+same-fit s z n m r q e = ap all_fit (same-limits s z n m r q e)
 
 -- the same behind spaces
 pub shape-at : (text y r : List ℕ) (s : Sign) (n : Named) → text ≡ behind is_space y → Shape y s n r → Shape text s n r

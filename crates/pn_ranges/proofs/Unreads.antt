@@ -26,7 +26,7 @@ use Rattle.pn_ranges.proofs.Fronts.{behind-append, behind-same}
 use Rattle.pn_ranges.proofs.Inside.{past}
 use Rattle.pn_ranges.proofs.Passes.{forms-go}
 use Rattle.pn_ranges.proofs.Reached.{FirstTo, both, first-more-ranges, first-over, first-unique, later-begun, later-open, later-over, lower-not, onward, over, last, more, range-read, same-begun, upper-is}
-use Rattle.pn_ranges.proofs.Same.{Shape, behind-all, comparator-shape, head-same, same-end, same-split, upper-bare}
+use Rattle.pn_ranges.proofs.Same.{Shape, behind-all, comparator-shape, head-same, same-end, same-split}
 
 -- the comparator at the front
 spaced-shape : (text rest : List ℕ) (s : Sign) (n : Named) (a : SpacedAt text s n rest) → Shape text s n (a.spaces ++ rest)
@@ -140,7 +140,7 @@ rest-closed text rest high a sp some fit = λ to w.
     let left : behind is_space text ≡ a.front ++ back = ap (behind is_space) a.split ∙ behind-append is_space a.gaps (a.front ++ back) a.apart.spaces ∙ head-same a.front back high a.read in
     let q = upper-is text to w in
     let e = same-end a.front q.front back q.rest high q.name a.read q.is ends q.ends (sym left ∙ q.split) in
-    let fits : all_fit (upper_limits high) ≡ all_fit (upper_limits q.name) = upper-bare high ∙ ap (λ z. all_fit (upper_limits z)) e.0 ∙ sym (upper-bare q.name) in
+    let fits : all_fit (upper_limits high) ≡ all_fit (upper_limits q.name) = ap (λ z. all_fit (upper_limits z)) e.0 in
     elim q.fit [
       | inl v ↦ both (all_fit (upper_limits high)) fit (fits ∙ v.0)
       | inr v ↦ both (ends_range rest) (sym (ap ends_range (later-rest a.spaces rest a.blank ∙ same-rest rest rest refl sp)) ∙ ap (λ z. ends_range (behind is_space z)) e.1 ∙ v.1) some

@@ -10,5 +10,6 @@ pub mod Unread
 pub mod Reading
 pub mod Refusals
 pub mod RefusalLaw
+pub mod ReadingLaw
 pub mod Laws
 pub mod PlaceLaw

@@ -1,6 +1,7 @@
 // Laws of ranges in the subject's own words. The definitions by which `Range` reads and holds obey them.
 ghost use Rattle.pn_ranges.specs.Laws.{CaretLaw, HyphenLaw, PreLaw, UnionLaw};
 ghost use Rattle.pn_ranges.specs.PlaceLaw.{PlaceLaw};
+ghost use Rattle.pn_ranges.specs.ReadingLaw.{ReadingLaw};
 ghost use Rattle.pn_ranges.specs.RefusalLaw.{RefusalLaw};
 
 /// A caret of a full version without pre-release holds exactly the releases that aren't below it and whose left-most
@@ -35,4 +36,9 @@ pub fn place_law()
 /// that would reach 2^64, where all before it is read whole, stands before a wrong byte or number.
 pub fn refusal_law()
     ensures { RefusalLaw }
+{}
+
+/// A text spells at most one list of ranges, and has one count of comparators.
+pub fn reading_law()
+    ensures { ReadingLaw }
 {}

@@ -1,4 +1,8 @@
 //! Version ranges as npm writes them, and the versions that they hold.
+//!
+//! `Range::read` is exact, want of memory aside: a text spells lists of limits in one way, and these are given, or it has
+//! one fault, which is named, by its place unless it is that of too many comparators. `Range::holds` answers exactly
+//! whether a version satisfies one of the lists. Contracts see a range as these lists.
 #![tactic(auto)]
 
 mod bound;
@@ -17,5 +21,5 @@ mod tail;
 mod tests;
 
 pub use fault::RangeFault;
-pub use laws::{caret_law, hyphen_law, place_law, pre_law, refusal_law, union_law};
+pub use laws::{caret_law, hyphen_law, place_law, pre_law, reading_law, refusal_law, union_law};
 pub use set::Range;
