@@ -17,6 +17,7 @@ pub mod Passes
 pub mod Follow
 pub mod FollowParts
 pub mod FollowRanges
+pub mod Numbers
 pub mod Stopped
 pub mod Same
 pub mod Faults

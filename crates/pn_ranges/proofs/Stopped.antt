@@ -1,5 +1,5 @@
 -- Where the automaton stops, in the words of the grammar.
-use Rattle.std.proofs.Common.{◌≡◌, ◌<◌, ◌+◌, ◌-◌, ℕ, suc, true, false, List, [], ◌∷◌, ◌++◌, length, take, Some, None, refl, sym, ap, subst, ◌∙◌, arith, inl, inr}
+use Rattle.std.proofs.Common.{◌≡◌, ◌<◌, ◌+◌, ◌-◌, ℕ, suc, true, false, List, [], ◌∷◌, ◌++◌, length, take, Some, None, refl, sym, ap, subst, ◌∙◌, arith, inl, inr, append_assoc}
 use Rattle.std.specs.Prelude.{if◌then◌else◌}
 use Rattle.std.proofs.lemmas.Bool.{cases_Bool}
 use Rattle.pn_ranges.specs.declared.fault.Stop.TheVariants as stop
@@ -26,6 +26,7 @@ use Rattle.pn_ranges.proofs.Follow.{Digits, Rest, RestOf}
 use Rattle.pn_ranges.proofs.Follow as w
 use Rattle.pn_ranges.proofs.FollowParts.{build-step, digits-step, end-step, hyphen-step, naught-step, part-step, plus-step, pre-step-on, whole-step, zeros-step}
 use Rattle.pn_ranges.proofs.FollowRanges.{bar-step, closed-step, dash-step, equal-step, far-step, gap-step, operand-step, sign-step, start-step}
+use Rattle.pn_ranges.proofs.Numbers.{closed-digits, digit-shut, ill, opens, stays-well, wild}
 use Rattle.pn_ranges.proofs.Words.{and_false}
 
 -- a text in which the automaton stops behind so many bytes
@@ -256,6 +257,49 @@ to-digit s _ _ (later _ next b at rest e l i) =
     let same : suc at + 1 ≡ suc (at + 1) = omega arith in
     (k.0, subst (λ z. Rest s (b ∷ rest) (take z (b ∷ rest) ++ k.0)) (sym same) (rest-step s b rest (take (at + 1) rest ++ k.0) small (subst (λ o. RestOf o rest (take (at + 1) rest ++ k.0)) (sym e) k.1)))
 
+-- where the number begins a part may
+opens-large : (s next : State) (b : ℕ) (rest : List ℕ) → step s b ≡ Some next → is_large s next (b ∷ rest) ≡ true → opens s ≡ true
+opens-large s next b rest e l =
+    let d = large-digits (is_digits next) (is_digits s) (nat_le (2 ^ 64) (number_at (b ∷ rest))) l in
+    elim (cases_Bool (opens s)) [
+      | inl o ↦ o
+      | inr n ↦ absurd (let x : false ≡ true = sym (closed-digits s b n d.1) ∙ ap (λ o. on_some o is_digits) e ∙ d.0 in cc x)
+    ]
+
+to-wild : (s : State) (text : List ℕ) (at : ℕ) → LargeIn s text at → (u : List ℕ) × Rest s text (take at text ++ 42 ∷ u)
+to-wild s _ _ (here _ next b rest e l) =
+    let d = large-digits (is_digits next) (is_digits s) (nat_le (2 ^ 64) (number_at (b ∷ rest))) l in
+    let w = wild s (opens-large s next b rest e l) in
+    let k = given w.next [] (λ h. let x : true ≡ false = sym h ∙ w.tame in cc) in
+    let small : (n : State) → step s 42 ≡ Some n → is_large s n (42 ∷ []) ≡ false = λ n h. and_false (is_digits n && not (is_digits s)) (nat_le (2 ^ 64) (number_at (42 ∷ []))) (one-digit 42) in
+    (k.0, any-text s (42 ∷ []) (b ∷ rest) (42 ∷ k.0) d.1 (rest-step s 42 [] k.0 small (subst (λ o. RestOf o [] k.0) (sym w.goes) k.1)))
+to-wild s _ _ (later _ next b at rest e l i) =
+    let k = to-wild next rest at i in
+    let small : (n : State) → step s b ≡ Some n → is_large s n (b ∷ rest) ≡ false = λ n h. let same : next ≡ n = cc in subst (λ z. is_large s z (b ∷ rest) ≡ false) same l in
+    (k.0, rest-step s b rest (take at rest ++ 42 ∷ k.0) small (subst (λ o. RestOf o rest (take at rest ++ 42 ∷ k.0)) (sym e) k.1))
+
+-- no digit stands right before it
+begins : (s next : State) (b at : ℕ) (rest : List ℕ) → ill s ≡ false → step s b ≡ Some next → LargeIn next rest at → take at rest ≡ [] → is_digit b ≡ false
+begins s next b _ _ w e (here _ m c rest k l) h = elim (cases_Bool (is_digit b)) [
+  | inr other ↦ other
+  | inl digit ↦ absurd (let x : false ≡ true = sym (digit-shut s b w digit) ∙ ap (λ o. on_some o opens) e ∙ opens-large next m c rest k l in cc x)
+]
+begins s next b _ _ w e (later _ m c at rest k l i) h = cc h
+
+first-byte : (b c : ℕ) (s t : List ℕ) → b ∷ s ≡ c ∷ t → b ≡ c
+first-byte b c s t h = cc h
+
+next-bytes : (b c : ℕ) (s t : List ℕ) → b ∷ s ≡ c ∷ t → s ≡ t
+next-bytes b c s t h = cc h
+
+apart : (s : State) (text : List ℕ) (at : ℕ) → ill s ≡ false → LargeIn s text at → (before : List ℕ) (c : ℕ) → take at text ≡ before ++ c ∷ [] → is_digit c ≡ false
+apart s _ _ w (here _ next b rest e l) [] c h = cc h
+apart s _ _ w (here _ next b rest e l) (d ∷ before) c h = cc h
+apart s _ _ w (later _ next b at rest e l i) [] c h =
+    subst (λ z. is_digit z ≡ false) (first-byte b c (take at rest) [] h) (begins s next b at rest w e i (next-bytes b c (take at rest) [] h))
+apart s _ _ w (later _ next b at rest e l i) (d ∷ before) c h =
+    apart next rest at (sym (ap (λ o. on_some o ill) e) ∙ stays-well s b) i before c (next-bytes b d (take at rest) (before ++ c ∷ []) h)
+
 long : (s : State) (text : List ℕ) (at : ℕ) → LargeIn s text at → nat_le (2 ^ 64) (number_at (drop at text)) ≡ true
 long s _ _ (here _ next b rest e l) = (large-digits (is_digits next) (is_digits s) (nat_le (2 ^ 64) (number_at (b ∷ rest))) l).2
 long s _ _ (later _ next b at rest e l i) = long next rest at i
@@ -265,7 +309,13 @@ long-at text at h e =
     let s = large text p.start (length text - at) e in
     let same : s.at ≡ at = let a = s.split in omega arith in
     let i : LargeIn p.start text at = subst (LargeIn p.start text) same s.is in
-    record { front = to-digit p.start text at i; long = leb-true (2 ^ 64) (number_at (drop at text)) (long p.start text at i) }
+    let k = to-wild p.start text at i in
+    record {
+      front = to-digit p.start text at i;
+      part = (k.0, subst AreForms (sym (append_assoc (take at text) (42 ∷ []) k.0)) k.1);
+      apart = apart p.start text at refl i;
+      long = leb-true (2 ^ 64) (number_at (drop at text)) (long p.start text at i);
+    }
 
 numbered : (text : List ℕ) (at : ℕ) → StopsNumber text at → IsLongAt text at
 numbered text at h = long-at text at h.within h.first

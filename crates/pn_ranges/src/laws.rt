@@ -25,9 +25,10 @@ pub fn pre_law()
     ensures { PreLaw }
 {}
 
-/// A wrong byte stands at the first place where no reading goes on: the bytes before it begin some text of the grammar,
-/// with that byte they begin none, and where the place is the length the text ends too early. A number that is too
-/// large stands behind bytes that begin some text with its first digit.
+/// A wrong byte stands at the first place where no reading goes on: the bytes before it begin some text of the grammar
+/// without regard to the limits of numbers and to the count of comparators, with that byte they begin none, and where the
+/// place is the length the text ends too early. A number that is too large begins where a part may: the bytes before it
+/// begin such a text with its first digit and with `*`, and no digit stands right before it.
 pub fn place_law()
     ensures { PlaceLaw }
 {}
