@@ -4,3 +4,4 @@ pub mod Ats
 pub mod LawProofs
 pub mod Puts
 pub mod Named
+pub mod OneReading

@@ -25,22 +25,25 @@ own-at : (t : List ℕ) → has_foreign t ≡ false → has_at t ≡ false
 own-at [] h = refl
 own-at (b ∷ t) h = rw (or-left (b == 64) (b == 58) (or-left (is_foreign b) (has_foreign t) h), own-at t (or-right (is_foreign b) (has_foreign t) h)) refl
 
-ws-no-at : (t : List ℕ) (w : WsWant) → IsWsWant t w → has_at t ≡ false
+pub ws-no-at : (t : List ℕ) (w : WsWant) → IsWsWant t w → has_at t ≡ false
 ws-no-at t ws.Any h = ap has_at h
 ws-no-at t ws.Caret h = ap has_at h
 ws-no-at t ws.Tilde h = ap has_at h
 ws-no-at t (ws.Range r) h = own-at t (foreign t r h.1)
 
-want-no-at : (t : List ℕ) (w : Want) → IsWant t w → has_at t ≡ false
+pub want-no-at : (t : List ℕ) (w : Want) → IsWant t w → has_at t ≡ false
 want-no-at t (want.Range r) h = own-at t (foreign t r h)
 want-no-at t (want.Tag x) h = tag-no-at t h.bytes
 
--- behind the same `@`
-one-front : (n m s r t : List ℕ) → t ≡ n ++ 64 ∷ s → t ≡ m ++ 64 ∷ r → has_at s ≡ false → has_at r ≡ false → n ≡ m
-one-front n m s r t e f h k = elim (last-at n s m r (sym e ∙ f) h) [
-  | inl same ↦ same.0
+-- around the same `@`
+pub one-parts : (n m s r t : List ℕ) → t ≡ n ++ 64 ∷ s → t ≡ m ++ 64 ∷ r → has_at s ≡ false → has_at r ≡ false → (n ≡ m) × (s ≡ r)
+one-parts n m s r t e f h k = elim (last-at n s m r (sym e ∙ f) h) [
+  | inl same ↦ same
   | inr later ↦ absurd (at-once r later.0 later.1 k later.2)
 ]
+
+one-front : (n m s r t : List ℕ) → t ≡ n ++ 64 ∷ s → t ≡ m ++ 64 ∷ r → has_at s ≡ false → has_at r ≡ false → n ≡ m
+one-front n m s r t e f h k = (one-parts n m s r t e f h k).0
 
 one-project : (t : List ℕ) (w v : WsWant) (n m : Option (List ℕ)) → IsNamed (λ rest. IsWsWant rest w) t n → IsNamed (λ rest. IsWsWant rest v) t m → n ≡ m
 one-project t w v None None h k = refl
@@ -55,7 +58,7 @@ named-some : (n : List ℕ) → is_name n ≡ true → n ≢ []
 named-some [] h e = cc h
 named-some (b ∷ n) h e = cc e
 
-bare-front : (t n m r : List ℕ) → t ≡ n → is_name n ≡ true → t ≡ m ++ 64 ∷ r → is_name m ≡ true → ⊥
+pub bare-front : (t n m r : List ℕ) → t ≡ n → is_name n ≡ true → t ≡ m ++ 64 ∷ r → is_name m ≡ true → ⊥
 bare-front t n m r e h f k = let off : true ≡ false = sym h ∙ ap is_name (sym e) ∙ name-not t m r f (named-some m k) in cc off
 
 pub name : NameLaw

@@ -5,3 +5,4 @@ pub mod Forms
 pub mod Refusals
 pub mod Entries
 pub mod Laws
+pub mod ReadingLaw

@@ -2,6 +2,7 @@
 ghost use Rattle.pn_spec.specs.Entries.{PutLaw};
 ghost use Rattle.pn_spec.specs.Laws.{FormLaw, NameLaw, ProjectLaw, SpaceLaw};
 ghost use Rattle.pn_spec.specs.Ranges.{ForeignLaw};
+ghost use Rattle.pn_spec.specs.ReadingLaw.{ReadingLaw};
 
 /// No text is of two of the prefixed forms, or of one of them and a range or tag.
 pub fn form_law()
@@ -32,4 +33,10 @@ pub fn foreign_law()
 /// Behind a put into catalogs, its catalog and name find what was put, and all others what they found.
 pub fn put_law()
     ensures { PutLaw }
+{}
+
+/// A text is at most one specifier, and none where `Spec::read` refuses it. One that `Catalogs::put` refuses is none that
+/// an entry has. Want of memory aside.
+pub fn reading_law()
+    ensures { ReadingLaw }
 {}

@@ -20,7 +20,7 @@ mod workspace;
 pub use catalogs::Catalogs;
 pub use entry::CatalogEntry;
 pub use fault::SpecFault;
-pub use laws::{foreign_law, form_law, name_law, project_law, put_law, space_law};
+pub use laws::{foreign_law, form_law, name_law, project_law, put_law, reading_law, space_law};
 pub use spec::Spec;
 pub use want::Want;
 pub use workspace::{WsSpec, WsWant};
