@@ -6,7 +6,7 @@ import { createRequire } from 'node:module';
 import { join } from 'node:path';
 import { sequence } from './generated.mjs';
 import { npmFolder } from './npm.mjs';
-import { built, finish, run } from './program.mjs';
+import { built, finish, named, run } from './program.mjs';
 
 const skip = (why) => {
   console.log(`check-ranges: skipped: ${why}`);
@@ -23,7 +23,7 @@ const carriedSemver = (npm) => {
 
 const npm = npmFolder() ?? skip('no npm');
 const semver = carriedSemver(npm);
-const binary = process.argv[2] ?? built('range_check') ?? skip("the kit's command rt is missing");
+const binary = named ?? built('range_check') ?? skip("the kit's command rt is missing");
 
 const below = sequence(20240229);
 const pick = (list) => list[below(list.length)];

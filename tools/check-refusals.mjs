@@ -56,9 +56,9 @@ const told = JSON.stringify;
 const compareText = (what, found, wanted) => (found === wanted ? [] : [`${what} ${told(found)}, not ${told(wanted)}`]);
 
 const runIn = ({ words, output }, { project, env }) => {
-  if (output === undefined) return run(program(), words, { cwd: project, env });
+  if (output === undefined) return run(program, words, { cwd: project, env });
   const stdout = openSync(output, 'w');
-  const ended = run(program(), words, { cwd: project, env, stdout });
+  const ended = run(program, words, { cwd: project, env, stdout });
   closeSync(stdout);
   return ended;
 };

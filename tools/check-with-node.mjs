@@ -14,7 +14,7 @@ import { differences, entriesOf, put, temporary } from './trees.mjs';
 const install = (project, registry, env) => {
   const packages = reached(project, registry);
   const wanted = new Map([...entriesOf(project), ...installedTree(project, packages)]);
-  const { status, out, err } = run(program(), ['install'], { cwd: project, env });
+  const { status, out, err } = run(program, ['install'], { cwd: project, env });
   const problems = differences(wanted, entriesOf(project));
   const report = `projects 1\npackages ${packages.length}\ninstances ${packages.length}\n`;
   if (status !== 0) problems.push(`status ${status}, not 0`);

@@ -10,7 +10,6 @@ import json
 import os
 import random
 import re
-import shutil
 import subprocess
 import sys
 
@@ -271,31 +270,14 @@ def compare_changed(yaml, program, rnd):
     return problems
 
 
-def sources():
-    """The files that programs are built of."""
-    yield os.path.join(TOP, "crates.txt")
-    for folder, folders, files in os.walk(os.path.join(TOP, "crates")):
-        folders[:] = [name for name in folders if name != "out"]
-        yield from (os.path.join(folder, name) for name in files if name.endswith((".rt", ".antt")))
-
-
-def is_built(path):
-    return os.path.exists(path) and all(os.path.getmtime(one) <= os.path.getmtime(path) for one in sources())
-
-
 def built():
-    """The path of the program, which is built where it is missing or a source is newer; None without the kit's command."""
-    folder = os.path.join(TOP, "crates", "yaml_check")
-    path = os.path.join(folder, "out", "yaml_check")
-    if is_built(path):
-        return path
-    if shutil.which("rt") is None:
+    """The path of the program, which is built first where it isn't yet or a source is newer; None without the kit's command."""
+    ended = subprocess.run([os.path.join(TOP, "tools", "built.sh"), "yaml_check"], stdout=subprocess.PIPE, stderr=subprocess.PIPE)
+    if ended.returncode == 127:
         return None
-    ended = subprocess.run(["rt", "run"], cwd=folder, stdin=subprocess.DEVNULL, stdout=subprocess.PIPE, stderr=subprocess.STDOUT)
-    if ended.returncode != 0 or not os.path.exists(path):
-        raise SystemExit(f"check-yaml: yaml_check can't be built: {ended.stdout.decode()}")
-    os.utime(path)
-    return path
+    if ended.returncode != 0:
+        raise SystemExit(f"check-yaml: yaml_check can't be built: {ended.stderr.decode()}")
+    return ended.stdout.decode()[:-1]
 
 
 def main():
@@ -304,7 +286,7 @@ def main():
     except ImportError:
         print("check-yaml: skipped: python has no yaml library")
         return 0
-    program = sys.argv[1] if len(sys.argv) > 1 else built()
+    program = os.path.abspath(sys.argv[1]) if len(sys.argv) > 1 else built()
     if program is None:
         print("check-yaml: skipped: the kit's command rt is missing")
         return 0
