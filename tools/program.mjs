@@ -49,6 +49,9 @@ export const ask = (file, words, questions, env) => {
   throw new Error(`${file} gave ${answers.length} answers to ${questions.length} questions`);
 };
 
+// What an install reports on standard output.
+export const report = (packages) => `projects 1\npackages ${packages.length}\ninstances ${packages.length}\n`;
+
 // Ends the check: status 1 where there are differences, each told in a line.
 export const finish = (check, problems) => {
   for (const line of problems.slice(0, 50)) console.log(`  differs: ${line}`);
