@@ -5,20 +5,32 @@
 set -eu
 
 top=$(dirname -- "$(dirname -- "$(readlink -f -- "$0")")")
-program=${1:-$top/crates/yaml_bench/out/yaml_bench}
+program=${1:-$("$top/tools/built.sh" yaml_bench)}
 
-if [ ! -x "$program" ]; then
-  echo "bench-yaml: there is no $program; rt run in crates/yaml_bench builds it" >&2
+fail() {
+  echo "bench-yaml: $1" >&2
   exit 1
-fi
+}
 
-text=$(mktemp)
-trap 'rm -f "$text"' EXIT
+[ -x "$program" ] || fail "there is no $program"
+
+work=$(mktemp -d)
+trap 'rm -rf "$work"' EXIT
 trap 'exit 1' INT TERM
 
+text=$work/pnpm-lock.yaml
 "$program" text >"$text"
-echo "bench-yaml: a lockfile of $(wc -c <"$text") bytes"
-"$program" bench
+[ "$(head -n 1 "$text")" = "lockfileVersion: '9.0'" ] || fail "$program prints no lockfile: $(head -n 1 "$text")"
+echo "bench-yaml: $program, a lockfile of $(wc -c <"$text") bytes"
+
+# it ends with 0 also where it can't read or print
+"$program" bench >"$work/speeds"
+cat "$work/speeds"
+speed=' [0-9][0-9]* MB/s$'
+if ! grep -q "^read:$speed" "$work/speeds" || ! grep -q "^print:$speed" "$work/speeds" ||
+  grep -qv -e "^read:$speed" -e "^print:$speed" "$work/speeds"; then
+  fail "$program didn't measure both speeds"
+fi
 
 if ! python3 -c 'import yaml' 2>/dev/null; then
   echo "python's yaml library: skipped, it is missing"

@@ -5,13 +5,14 @@
 set -eu
 
 top=$(dirname -- "$(dirname -- "$(readlink -f -- "$0")")")
-program=${1:-$top/crates/pnpm_rs/out/pnpm_rs}
+program=${1:-$("$top/tools/built.sh" pnpm_rs)}
+program=$(readlink -f -- "$program")
 packages=1000
 files=10
 runs=5
 
 if [ ! -x "$program" ]; then
-  echo "bench: there is no $program; the launcher pnpm-rs builds it" >&2
+  echo "bench: there is no $program" >&2
   exit 1
 fi
 
@@ -92,7 +93,7 @@ fi
 
 install=$(median_of "$work/installs")
 copy=$(median_of "$work/copies")
-echo "bench: $packages packages, $wanted files, in $work"
+echo "bench: $program, $packages packages, $wanted files, in $work"
 echo "install: $install ms"
 echo "cp -r:   $copy ms"
 awk -v a="$install" -v b="$copy" 'BEGIN { printf "ratio:   %.2f\n", a / b }'

@@ -6,24 +6,27 @@ import { createRequire } from 'node:module';
 import { join } from 'node:path';
 import { sequence } from './generated.mjs';
 import { npmFolder } from './npm.mjs';
-import { built, finish, run } from './program.mjs';
+import { built, finish, named, run } from './program.mjs';
 
 const skip = (why) => {
   console.log(`check-ranges: skipped: ${why}`);
   process.exit(0);
 };
 
-const carriedSemver = (npm) => {
+const npm = npmFolder() ?? skip('there is no npm or no folder of its packages');
+const carried = createRequire(join(npm, 'package.json'));
+
+const carriedSemver = () => {
   try {
-    return createRequire(join(npm, 'package.json'))('semver');
-  } catch {
-    return skip('npm carries no semver');
+    return { semver: carried('semver'), release: carried('semver/package.json').version };
+  } catch (e) {
+    if (e.code === 'MODULE_NOT_FOUND') return skip('npm carries no semver');
+    throw e;
   }
 };
 
-const npm = npmFolder() ?? skip('no npm');
-const semver = carriedSemver(npm);
-const binary = process.argv[2] ?? built('range_check') ?? skip("the kit's command rt is missing");
+const { semver, release } = carriedSemver();
+const binary = named ?? built('range_check') ?? skip("the kit's command rt is missing");
 
 const below = sequence(20240229);
 const pick = (list) => list[below(list.length)];
@@ -121,13 +124,21 @@ if (ours.length !== pairs.length) problems.push(`${pairs.length} pairs, ${ours.l
 if (ranges.size === 0) problems.push('no manifest that npm carries has a range');
 
 const counts = new Map(rules.map(([name]) => [name, 0]));
+const alike = { true: 0, false: 0, refused: 0 };
 for (let i = 0; i < pairs.length; i += 1) {
   const answer = theirs(pairs[i]);
-  if (answer === ours[i]) continue;
+  if (answer === ours[i]) {
+    alike[answer] += 1;
+    continue;
+  }
   const rule = rules.find(([, applies]) => applies(pairs[i][0], ours[i], answer));
   if (rule === undefined) problems.push(`${JSON.stringify(pairs[i][0])} ${pairs[i][1]}: ${ours[i]} here, ${answer} there`);
   else counts.set(rule[0], counts.get(rule[0]) + 1);
 }
-console.log(`check-ranges: ${pairs.length} pairs, semver ${semver.SEMVER_SPEC_VERSION}, ${ranges.size} ranges of manifests`);
+for (const [answer, count] of Object.entries(alike)) {
+  if (count === 0) problems.push(`no pair is answered ${answer} by both`);
+}
+console.log(`check-ranges: ${pairs.length} pairs, semver ${release}, ${ranges.size} ranges of manifests`);
+console.log(`  alike: ${alike.true} held, ${alike.false} not held, ${alike.refused} refused`);
 for (const [name, count] of counts) console.log(`  by design: ${name}: ${count}`);
 finish('check-ranges', problems);

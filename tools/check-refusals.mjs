@@ -5,7 +5,7 @@ import { spawnSync } from 'node:child_process';
 import { closeSync, openSync, truncateSync } from 'node:fs';
 import { join } from 'node:path';
 import { installedTree, reached } from './packages.mjs';
-import { build, finish, program, run } from './program.mjs';
+import { build, finish, program, report, run } from './program.mjs';
 import { cases } from './refusals.mjs';
 import { differences, entriesOf, put, temporary } from './trees.mjs';
 
@@ -39,8 +39,6 @@ const make = ({ project: own, registry: packages, at = 'pnpm-rs-registry', env, 
   return { project, registry, env: named === undefined ? {} : { PNPM_RS_REGISTRY: named } };
 };
 
-const report = (packages) => `projects 1\npackages ${packages.length}\ninstances ${packages.length}\n`;
-
 // What is to be printed, and what is to stand: the installed project where the writing comes to its end.
 const expected = ({ status, text }, { project, registry }) => {
   const before = entriesOf(project);
@@ -56,9 +54,9 @@ const told = JSON.stringify;
 const compareText = (what, found, wanted) => (found === wanted ? [] : [`${what} ${told(found)}, not ${told(wanted)}`]);
 
 const runIn = ({ words, output }, { project, env }) => {
-  if (output === undefined) return run(program(), words, { cwd: project, env });
+  if (output === undefined) return run(program, words, { cwd: project, env });
   const stdout = openSync(output, 'w');
-  const ended = run(program(), words, { cwd: project, env, stdout });
+  const ended = run(program, words, { cwd: project, env, stdout });
   closeSync(stdout);
   return ended;
 };

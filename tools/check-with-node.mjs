@@ -7,18 +7,18 @@ import { generate } from './generated.mjs';
 import { compareLoads, compareLookup, compareOdd, questionsOf } from './lookups.mjs';
 import { npmFolder } from './npm.mjs';
 import { installedTree, isExact, isName, reached, readManifest } from './packages.mjs';
-import { build, built, finish, program, run, top } from './program.mjs';
+import { build, built, finish, program, report, run, top } from './program.mjs';
 import { differences, entriesOf, put, temporary } from './trees.mjs';
 
 // Installs the project, and compares the report, the tree, and what else the project's folder has.
 const install = (project, registry, env) => {
   const packages = reached(project, registry);
   const wanted = new Map([...entriesOf(project), ...installedTree(project, packages)]);
-  const { status, out, err } = run(program(), ['install'], { cwd: project, env });
+  const { status, out, err } = run(program, ['install'], { cwd: project, env });
   const problems = differences(wanted, entriesOf(project));
-  const report = `projects 1\npackages ${packages.length}\ninstances ${packages.length}\n`;
+  const wantedOut = report(packages);
   if (status !== 0) problems.push(`status ${status}, not 0`);
-  if (out !== report) problems.push(`the report is ${JSON.stringify(out)}, not ${JSON.stringify(report)}`);
+  if (out !== wantedOut) problems.push(`the report is ${JSON.stringify(out)}, not ${JSON.stringify(wantedOut)}`);
   if (err !== '') problems.push(`standard error has ${JSON.stringify(err)}`);
   return { packages, problems };
 };

@@ -3,14 +3,14 @@
 
 Generated texts of the subset have to be read alike, and what is printed of them has to be read as the same data by that
 library too. Of texts that are changed at random, those that both read have to be read alike, but for forms in which the
-subset differs by design: these are counted by rule.
+subset differs by design. Such a text is first reduced to what its difference wants, and the rules are asked of that alone.
+Texts that one side alone reads are counted by the other side's fault.
 Usage: tools/check-yaml.py [PATH OF yaml_check]
 """
 import json
 import os
 import random
 import re
-import shutil
 import subprocess
 import sys
 
@@ -174,21 +174,32 @@ def changed(text, rnd):
 # YAML 1.2 ends lines at line feeds and carriage returns, and python's library at these too.
 OTHER_ENDS = re.compile("[\x85\u2028\u2029]")
 OTHER_ENDS_RULE = "other line ends than line feeds are text here"
+LONE_RETURN = re.compile(r"\r(?!\n)")
+LONE_RETURN_RULE = "some fault, behind a carriage return that is text here"
 
-# Forms that both read, in ways that differ by design.
-HEADER = r"(?m)[|>][-+]?\d? *( #[^\n]*)?\n"
+# Forms of whole reduced texts that both read, in ways that differ by design.
+ABOVE = r"(?:[^\n]*:\n)?"
+HEADER = r"(?:[^\n]*: +|- +)[|>]"
 RULES = [
-    ("a `: ` in a plain value is text here", r"(?m)^\s*(- |[^\n]*?: )[^\n]*:( |$)"),
-    ("a `- ` behind `- ` or `: ` is text here", r"(?m)(- +|: +|[\[{,] *)-( |$)"),
-    ("a line below a key that begins with `[` or `{` is a key here", r"(?m)^ *[\[{][^\n]*: "),
-    ("the indentation of a block scalar isn't written in its header here", r"(?m)[|>][-+]?\d"),
-    ("an empty block scalar is a line feed here", HEADER + r"(\s*#[^\n]*\n)*(\S|\Z)"),
-    ("lines of spaces in a block scalar are passed over here", HEADER + r"(.*\n)*? *\n"),
-    ("a folded line that begins with a blank is joined by a space here", HEADER + r"(.*\n)*? +[ \t]"),
-    ("a block scalar ends with a line feed here, also where the text has none", HEADER + r"(.*\n)*?.*[^\n]\Z"),
-    ("a tab is text here", r"\t"),
-    (OTHER_ENDS_RULE, "[\r\x85\u2028\u2029]"),
-    ("a `?` in a flow begins a text where no space is behind it here", r"[\[{,] *\?"),
+    (OTHER_ENDS_RULE, "(?s:.*[\r\x85\u2028\u2029].*)"),
+    ("a tab is text here", r"(?s:.*\t.*)"),
+    ("a list item opens no map here", ABOVE + r" *- +[^\n\[{'\"][^\n]*:(?: [^\n]*)?\n?"),
+    ("a `- ` behind `- ` is text here", ABOVE + r" *- +-(?: [^\n]*)?\n?"),
+    ("a line below a key that begins with `[` or `{` is a key here", ABOVE + r" *[\[{][^\n]*:(?: [^\n]*)?\n?"),
+    ("a `?` in a flow begins a text where no space is behind it here", ABOVE + r"[^\n]*[\[{,] *\?[^ \n][^\n]*\n?"),
+    ("the indentation of a block scalar isn't written in its header here", HEADER + r"[-+]?\d[-+]?(?:\n[^\n]*)*"),
+    ("an empty block scalar is a line feed here", HEADER + r"[-+]?\n*"),
+    ("lines of spaces in a block scalar are passed over here", HEADER + r"[-+]?\n(?: +[^\n]+\n)?(?: *\n)+(?: +[^\n]+\n?)?"),
+    ("a folded line that begins with a blank is joined by a space here", HEADER + r"[-+]?(?:\n +[^\n]+)?\n {2,}[^ \n]+(?:\n +[^\n]+)?\n?"),
+    ("a block scalar ends with a line feed here, also where the text has none", HEADER + r"[-+]?\n +[^ \n]+"),
+]
+
+# The faults by which one side refuses what the other one reads. Any other one is a difference.
+OUR_FAULTS = ["tab", "indentation", "key", "quote", "escape", "flow", "key twice", "left out"]
+THEIR_FAULTS = [
+    "mapping values are not allowed here", "sequence entries are not allowed here", "expected the node content", "expected <block end>",
+    "expected ',' or '}'", "expected ',' or ']'", "could not find expected ':'", "expected chomping or indentation indicators",
+    "expected a comment or a line break", *(f"found character '{char}' that cannot start any token" for char in ["\\t", "|", ">"]),
 ]
 
 
@@ -201,12 +212,19 @@ def ask(program, texts):
     return answers
 
 
+def paired(data):
+    """The data with each map as the tuple of its pairs, so that the order of keys counts."""
+    if isinstance(data, dict):
+        return tuple((key, paired(one)) for key, one in data.items())
+    return [paired(one) for one in data] if isinstance(data, list) else data
+
+
 def unhexed(data):
     if isinstance(data, str):
         return bytes.fromhex(data).decode()
     if isinstance(data, list):
         return [unhexed(one) for one in data]
-    return {bytes.fromhex(key).decode(): unhexed(one) for key, one in data.items()}
+    return tuple((bytes.fromhex(key).decode(), unhexed(one)) for key, one in data)
 
 
 def is_read(answer):
@@ -214,16 +232,22 @@ def is_read(answer):
 
 
 def said(answer):
-    """The data that was read, and the text that was printed of it."""
+    """The data that was read, with maps as tuples of pairs, and the text that was printed of it."""
     data, printed = answer.split("\t")
-    return unhexed(json.loads(data)), None if printed == "-" else bytes.fromhex(printed).decode()
+    return unhexed(json.loads(data, object_pairs_hook=tuple)), None if printed == "-" else bytes.fromhex(printed).decode()
+
+
+def fault_of(e):
+    """The library's fault, without what it found."""
+    return (getattr(e, "problem", None) or getattr(e, "reason", None) or repr(e)).split(", but ")[0]
 
 
 def theirs(yaml, text):
+    """Whether the library reads the text, and the data or the fault."""
     try:
-        return True, yaml.load(text.encode(), Loader=yaml.BaseLoader)
-    except Exception:
-        return False, None
+        return True, paired(yaml.load(text.encode(), Loader=yaml.BaseLoader))
+    except Exception as e:
+        return False, fault_of(e)
 
 
 def compare_subset(yaml, program, rnd):
@@ -233,69 +257,118 @@ def compare_subset(yaml, program, rnd):
         if not is_read(answer):
             problems.append(f"{text!r}: {answer}")
             continue
+        wanted = True, paired(data)
         ours, printed = said(answer)
-        if ours != data or theirs(yaml, text) != (True, data):
+        if (True, ours) != wanted or theirs(yaml, text) != wanted:
             problems.append(f"{text!r}: {ours!r} here, {theirs(yaml, text)[1]!r} there, not {data!r}")
         elif OTHER_ENDS.search(printed):
             unlike += 1
-        elif theirs(yaml, printed) != (True, data):
+        elif theirs(yaml, printed) != wanted:
             problems.append(f"what is printed of {text!r}: {printed!r}")
     print(f"check-yaml: {len(texts)} generated texts, {sum(len(text) for text, _ in texts)} characters")
     print(f"  by design: {OTHER_ENDS_RULE}, so what is printed isn't compared: {unlike}")
     return problems
 
 
-def compare_changed(yaml, program, rnd):
-    texts = [changed(text_of_subset(rnd)[0], rnd) for _ in range(CHANGED)]
-    problems, counts, both, alone = [], {name: 0 for name, _ in RULES}, 0, [0, 0]
-    for text, answer in zip(texts, ask(program, texts)):
-        is_theirs, data = theirs(yaml, text)
-        if not is_read(answer) or not is_theirs:
-            alone[0] += is_read(answer)
-            alone[1] += is_theirs
-            continue
-        both += 1
-        ours, _ = said(answer)
-        if ours == data or (ours == {} and data in (None, "")):
-            continue
-        rule = next((name for name, form in RULES if re.search(form, text)), None)
+def kinds(ours, data):
+    """What kinds of data stand at the first place where they differ, and how two scalars differ."""
+    if isinstance(ours, str) and isinstance(data, str):
+        return ours.strip() == data.strip(), ours.strip() == "", data.strip() == ""
+    if type(ours) is type(data):
+        for one, other in zip(ours, data):
+            if one != other:
+                return kinds(one, other)
+    return type(ours), type(data)
+
+
+def difference(yaml, text, answer):
+    """The kinds at which the readings of a text differ; None where they don't, or one side refuses it."""
+    is_theirs, data = theirs(yaml, text)
+    if not is_theirs or not is_read(answer):
+        return None
+    ours, _ = said(answer)
+    return None if ours == data or (ours == () and data in (None, "")) else kinds(ours, data)
+
+
+def without(parts, size):
+    """The parts without each run of so many."""
+    return [parts[:at] + parts[at + size:] for at in range(0, len(parts), max(1, size // 2))]
+
+
+def reduced(yaml, program, texts, parts_of):
+    """Each text without the parts that its difference doesn't want: none of them alone can be dropped."""
+    wanted = [difference(yaml, text, answer) for text, answer in zip(texts, ask(program, texts))]
+    kept = [parts_of(text) for text in texts]
+    sizes = [len(parts) for parts in kept]
+    while any(sizes):
+        tried = [(i, parts) for i, size in enumerate(sizes) if size > 0 for parts in without(kept[i], size)]
+        smaller = {}
+        for (i, parts), answer in zip(tried, ask(program, ["".join(parts) for _, parts in tried])):
+            if i not in smaller and difference(yaml, "".join(parts), answer) == wanted[i]:
+                smaller[i] = parts
+        sizes = [len(smaller[i]) if i in smaller else size // 2 for i, size in enumerate(sizes)]
+        kept = [smaller.get(i, parts) for i, parts in enumerate(kept)]
+    return ["".join(parts) for parts in kept]
+
+
+def lines_of(text):
+    return re.findall(r"[^\n]*\n|[^\n]+", text)
+
+
+def excuse(yaml, program, texts):
+    """The differing texts that no rule excuses, and how many each rule does."""
+    small = reduced(yaml, program, reduced(yaml, program, texts, lines_of), list)
+    problems, counts = [], {name: 0 for name, _ in RULES}
+    for text, answer in zip(small, ask(program, small)):
+        rule = next((name for name, form in RULES if re.fullmatch(form, text)), None)
         if rule is None:
-            problems.append(f"{text!r}: {ours!r} here, {data!r} there")
+            problems.append(f"{text!r}: {said(answer)[0]!r} here, {theirs(yaml, text)[1]!r} there")
         else:
             counts[rule] += 1
-    print(f"check-yaml: {len(texts)} changed texts: {both} read by both, {alone[0]} here alone, {alone[1]} there alone")
-    for name, count in counts.items():
-        print(f"  by design: {name}: {count}")
-    if both == 0:
-        problems.append("no changed text was read by both")
-    return problems
+    return problems, counts
 
 
-def sources():
-    """The files that programs are built of."""
-    yield os.path.join(TOP, "crates.txt")
-    for folder, folders, files in os.walk(os.path.join(TOP, "crates")):
-        folders[:] = [name for name in folders if name != "out"]
-        yield from (os.path.join(folder, name) for name in files if name.endswith((".rt", ".antt")))
-
-
-def is_built(path):
-    return os.path.exists(path) and all(os.path.getmtime(one) <= os.path.getmtime(path) for one in sources())
+def compare_changed(yaml, program, rnd):
+    texts = [changed(text_of_subset(rnd)[0], rnd) for _ in range(CHANGED)]
+    problems, differing, alike, neither = [], [], 0, 0
+    here, there = {fault: 0 for fault in [LONE_RETURN_RULE, *THEIR_FAULTS]}, {fault: 0 for fault in OUR_FAULTS}
+    for text, answer in zip(texts, ask(program, texts)):
+        is_theirs, data = theirs(yaml, text)
+        ours = re.fullmatch(r"refused \d+ (.*)", answer)
+        if not is_read(answer) and (ours is None or ours[1] not in there):
+            problems.append(f"{text!r}: {answer}")
+        elif is_read(answer) and is_theirs:
+            is_alike = difference(yaml, text, answer) is None
+            alike += is_alike
+            differing += [] if is_alike else [text]
+        elif is_theirs:
+            there[ours[1]] += 1
+        elif not is_read(answer):
+            neither += 1
+        elif LONE_RETURN.search(text):
+            here[LONE_RETURN_RULE] += 1
+        elif data in here:
+            here[data] += 1
+        else:
+            problems.append(f"{text!r}: read here, {data!r} there")
+    unlike, rules = excuse(yaml, program, differing)
+    print(f"check-yaml: {len(texts)} changed texts: {alike} read alike, {len(differing)} read unlike, {neither} read by neither")
+    for what, counts in (("by design", rules), ("read here alone, there", here), ("read there alone, here", there)):
+        for name, count in counts.items():
+            print(f"  {what}: {name}: {count}")
+    if alike == 0 or neither == 0:
+        problems.append("no changed text was read alike, or none was read by neither")
+    return problems + unlike
 
 
 def built():
-    """The path of the program, which is built where it is missing or a source is newer; None without the kit's command."""
-    folder = os.path.join(TOP, "crates", "yaml_check")
-    path = os.path.join(folder, "out", "yaml_check")
-    if is_built(path):
-        return path
-    if shutil.which("rt") is None:
+    """The path of the program, which is built first where it isn't yet or a source is newer; None without the kit's command."""
+    ended = subprocess.run([os.path.join(TOP, "tools", "built.sh"), "yaml_check"], stdout=subprocess.PIPE, stderr=subprocess.PIPE)
+    if ended.returncode == 127:
         return None
-    ended = subprocess.run(["rt", "run"], cwd=folder, stdin=subprocess.DEVNULL, stdout=subprocess.PIPE, stderr=subprocess.STDOUT)
-    if ended.returncode != 0 or not os.path.exists(path):
-        raise SystemExit(f"check-yaml: yaml_check can't be built: {ended.stdout.decode()}")
-    os.utime(path)
-    return path
+    if ended.returncode != 0:
+        raise SystemExit(f"check-yaml: yaml_check can't be built: {ended.stderr.decode()}")
+    return ended.stdout.decode()[:-1]
 
 
 def main():
@@ -304,7 +377,7 @@ def main():
     except ImportError:
         print("check-yaml: skipped: python has no yaml library")
         return 0
-    program = sys.argv[1] if len(sys.argv) > 1 else built()
+    program = os.path.abspath(sys.argv[1]) if len(sys.argv) > 1 else built()
     if program is None:
         print("check-yaml: skipped: the kit's command rt is missing")
         return 0

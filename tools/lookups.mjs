@@ -91,6 +91,9 @@ export const compareOdd = (findCheck) => {
   const folders = [...entriesOf(folder)].filter(([, entry]) => entry === 'folder').map(([path]) => join(folder, path));
   const questions = questionsAt(folders, oddNames, new Map());
   const wanted = byNode(questions);
-  console.log(`an odd tree: ${questions.length} lookups, ${wanted.filter((one) => one !== '-').length} of which find something`);
-  return compareAnswers('find_check', questions, ask(findCheck, [], pairs(questions)), wanted);
+  const found = wanted.filter((one) => one !== '-').length;
+  console.log(`an odd tree: ${questions.length} lookups, ${found} of which find something`);
+  const problems = compareAnswers('find_check', questions, ask(findCheck, [], pairs(questions)), wanted);
+  if (found === 0) problems.push('no lookup in the odd tree finds something');
+  return problems;
 };

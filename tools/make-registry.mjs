@@ -11,12 +11,16 @@ const usage = `usage: make-registry.mjs FROM TO
   FROM  a node_modules folder
   TO    the registry folder, made where it is missing`;
 
+const entryAt = (path) => lstatSync(path, { throwIfNoEntry: false });
+
+const isFolder = (path) => entryAt(path)?.isDirectory() ?? false;
+
 const [from, to, ...others] = process.argv.slice(2);
 if (to === undefined || others.length > 0) {
   console.error(usage);
   process.exit(2);
 }
-if (!lstatSync(from, { throwIfNoEntry: false })?.isDirectory()) {
+if (!isFolder(from)) {
   console.error(`make-registry: ${from} is no folder`);
   process.exit(2);
 }
@@ -31,8 +35,10 @@ const shown = (folder) => readdirSync(folder).filter((name) => !name.startsWith(
 
 const inScope = (modules, scope) => shown(join(modules, scope)).map((name) => `${scope}/${name}`);
 
+const isScope = (modules, name) => name.startsWith('@') && isFolder(join(modules, name));
+
 // The names of the packages in a node_modules folder, scoped ones included.
-const namesIn = (modules) => shown(modules).flatMap((name) => (name.startsWith('@') ? inScope(modules, name) : [name]));
+const namesIn = (modules) => shown(modules).flatMap((name) => (isScope(modules, name) ? inScope(modules, name) : [name]));
 
 // The package's regular files.
 const filesOf = (folder) => {
@@ -42,12 +48,16 @@ const filesOf = (folder) => {
 const copyFiles = (folder, files, target) => {
   const making = join(to, `.making-${process.pid}`);
   rmSync(making, { recursive: true, force: true });
-  for (const path of files.keys()) {
-    mkdirSync(dirname(join(making, path)), { recursive: true });
-    copyFileSync(join(folder, path), join(making, path));
+  try {
+    for (const path of files.keys()) {
+      mkdirSync(dirname(join(making, path)), { recursive: true });
+      copyFileSync(join(folder, path), join(making, path));
+    }
+    mkdirSync(dirname(target), { recursive: true });
+    renameSync(making, target);
+  } finally {
+    rmSync(making, { recursive: true, force: true });
   }
-  mkdirSync(dirname(target), { recursive: true });
-  renameSync(making, target);
 };
 
 const makeVersion = (folder, { name, version }) => {
@@ -65,7 +75,7 @@ const makeVersion = (folder, { name, version }) => {
 
 // The manifest of a package that a registry can hold, or why there is none.
 const manifestOf = (folder) => {
-  if (!lstatSync(folder).isDirectory()) return { why: 'no folder of its own' };
+  if (!isFolder(folder)) return { why: 'no folder of its own' };
   try {
     const manifest = readManifest(folder);
     if (!isName(manifest.name)) return { why: `no package name: ${manifest.name}` };
@@ -84,7 +94,8 @@ const makePackage = (folder) => {
   }
   makeVersion(folder, manifest);
   const nested = join(folder, 'node_modules');
-  if (existsSync(nested)) makeAll(nested);
+  if (isFolder(nested)) makeAll(nested);
+  else if (entryAt(nested)?.isSymbolicLink()) leaveOut(nested, 'a link');
 };
 
 const makeAll = (modules) => {

@@ -1,13 +1,15 @@
 // Runs the programs of this repository, for the checks.
 import { spawnSync } from 'node:child_process';
-import { existsSync, readdirSync, statSync, utimesSync } from 'node:fs';
-import { dirname, join } from 'node:path';
+import { dirname, join, resolve } from 'node:path';
 import { fileURLToPath } from 'node:url';
 
 export const top = dirname(dirname(fileURLToPath(import.meta.url)));
 
-// The program that is checked: the one that the command line names, else the launcher.
-export const program = () => process.argv[2] ?? join(top, 'pnpm-rs');
+// The path of the program that the command line names, from any folder; undefined where it names none.
+export const named = process.argv[2] === undefined ? undefined : resolve(process.argv[2]);
+
+// The installer that is checked: the one that is named, else the launcher.
+export const program = named ?? join(top, 'pnpm-rs');
 
 const cleanEnv = (more) => {
   const { PNPM_RS_REGISTRY, NODE_PATH, NODE_OPTIONS, NODE_PRESERVE_SYMLINKS, ...kept } = process.env;
@@ -23,38 +25,18 @@ export const run = (file, words, options = {}) => {
   return { status: ended.status, out: ended.stdout ?? '', err: ended.stderr };
 };
 
-// Has the launcher build the program. Without words it then ends with its usage error.
-export const build = () => {
-  const ended = run(program(), [], { cwd: top });
-  if (ended.status !== 2) throw new Error(`${program()} ended with ${ended.status}: ${ended.err.trim()}`);
+// The path of a program of this repository, which is built first where it isn't yet or a source is newer; undefined
+// where that wants the kit's command and it is missing.
+export const built = (name) => {
+  const { status, out, err } = run(join(top, 'tools', 'built.sh'), [name]);
+  if (status === 127) return undefined;
+  if (status !== 0) throw new Error(`${name} can't be built: ${err.trim()}`);
+  return out.slice(0, -1);
 };
 
-const isSource = (name) => /\.(rt|antt)$/.test(name);
-
-const sourcesBelow = (folder) =>
-  readdirSync(folder, { withFileTypes: true }).flatMap((one) => {
-    const path = join(folder, one.name);
-    if (one.isDirectory()) return one.name === 'out' ? [] : sourcesBelow(path);
-    return isSource(one.name) ? [path] : [];
-  });
-
-const timeOf = (path) => statSync(path).mtimeMs;
-
-// Whether a program is there and no source is newer.
-const isBuilt = (file) =>
-  existsSync(file) && [join(top, 'crates.txt'), ...sourcesBelow(join(top, 'crates'))].every((path) => timeOf(path) <= timeOf(file));
-
-// The path of a program of this repository, which reads standard input. It is built by the kit's command where it isn't
-// built yet or a source is newer; undefined where there is no such command.
-export const built = (name) => {
-  const folder = join(top, 'crates', name);
-  const file = join(folder, 'out', name);
-  if (isBuilt(file)) return file;
-  const ended = spawnSync('rt', ['run'], { cwd: folder, input: '', encoding: 'utf8', maxBuffer: 1 << 28 });
-  if (ended.error?.code === 'ENOENT') return undefined;
-  if (ended.status !== 0 || !existsSync(file)) throw new Error(`${name} can't be built: ${ended.stdout}${ended.stderr}`);
-  utimesSync(file, new Date(), new Date());
-  return file;
+// Has the program built that is checked, where the command line names none.
+export const build = () => {
+  if (named === undefined && built('pnpm_rs') === undefined) throw new Error("the kit's command rt is missing");
 };
 
 // Asks a program lines `<folder><tab><name>`, and answers the lines that it gives.
@@ -66,6 +48,9 @@ export const ask = (file, words, questions, env) => {
   if (answers.length === questions.length) return answers;
   throw new Error(`${file} gave ${answers.length} answers to ${questions.length} questions`);
 };
+
+// What an install reports on standard output.
+export const report = (packages) => `projects 1\npackages ${packages.length}\ninstances ${packages.length}\n`;
 
 // Ends the check: status 1 where there are differences, each told in a line.
 export const finish = (check, problems) => {

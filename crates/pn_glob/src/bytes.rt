@@ -71,8 +71,8 @@ fn search<'a>(kind: Kind, pattern: &'a [u8], text: &'a [u8]) -> Option<(&'a [u8]
     }
 }
 
-/// Whether a pattern matches a text, byte by byte. Between two `*` each place of the text is tried once, so it takes at
-/// most the pattern's length times the text's.
+/// Whether a pattern matches a text, byte by byte. Between two `*` each place of the text is tried once, so it takes
+/// steps in proportion to the pattern's length times the text's.
 pub(crate) fn bytes_match(kind: Kind, pattern: &[u8], text: &[u8]) -> bool
     ensures { result ≡ matches (byte_rules kind) pattern.now text.now }
 {

@@ -1,8 +1,8 @@
 //! Patterns of paths and of names, and what lists of them match.
 //!
-//! A list is read exactly by the grammar of patterns, a refusal names the first bad place, and no texts have two answers.
-//! A pattern with braces stands for texts without them, and contracts see a list as those texts. Matching takes no memory,
-//! and no more steps than the length of the pattern times the length of the text.
+//! A list is read exactly by the grammar of patterns, and no texts have two answers. `BadByte` names the first byte at
+//! which no reading goes on. A pattern with braces stands for texts without them, and contracts see a list as those texts.
+//! Matching takes no memory, and steps in proportion to the pattern's length times the text's.
 #![tactic(auto)]
 
 mod bytes;

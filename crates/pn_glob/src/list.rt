@@ -157,8 +157,8 @@ impl PatternList {
         })
     }
 
-    /// Whether some positive pattern matches a text and no negative one does. It takes no memory, and at most the length
-    /// of all patterns without braces times the text's.
+    /// Whether some positive pattern matches a text and no negative one does. It takes no memory, and steps in
+    /// proportion to the length of all patterns without braces times the text's.
     pub fn matches(&self, text: &str) -> bool
         ensures { result ≡ list_matches self.now text.now }
     {

@@ -80,7 +80,7 @@ fn search<'a>(pattern: Parts<'a>, path: Parts<'a>) -> Option<(Parts<'a>, Parts<'
 }
 
 /// Whether a pattern without braces matches a path. Between two `**` each place of the path is tried once, so it takes
-/// at most the pattern's length times the path's.
+/// steps in proportion to the pattern's length times the path's.
 pub(crate) fn paths_match(pattern: &[u8], path: &[u8]) -> bool
     ensures { result ≡ matches part_rules (parts pattern.now) (parts path.now) }
 {
