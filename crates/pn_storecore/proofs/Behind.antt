@@ -11,9 +11,6 @@ use Rattle.pn_storecore.specs.Came.{OthersCame}
 use Rattle.pn_storecore.proofs.Journals.{after_both, lawful_both, others_both}
 use Rattle.pn_storecore.proofs.Owners.{place}
 
-pub none_came : (me : ℕ) (j k : Journal) → k ≡ j → OthersCame me j k
-none_came me j k same = record { others = []; lawful = tt; theirs = tt; came = same ∙ sym (append-nil j) }
-
 world_came : (me : ℕ) (j k : Journal) (c : OthersCame me j k) → world_of k ≡ world_after (world_of j) c.others
 world_came me j k c = ap world_of c.came ∙ after_both empty j c.others
 

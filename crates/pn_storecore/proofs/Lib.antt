@@ -12,3 +12,5 @@ pub mod Grown
 pub mod Holding
 pub mod Leaving
 pub mod Scripts
+pub mod Listed
+pub mod Schedules

@@ -14,4 +14,5 @@ pub mod Came
 pub mod Held
 pub mod CallLaws
 pub mod Script
+pub mod Schedule
 pub mod Stores

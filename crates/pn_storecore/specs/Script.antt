@@ -1,6 +1,6 @@
 -- What a store in memory does by itself: steps of other installers come before its calls, and some calls fail.
-use Rattle.std.specs.Prelude.{◌≡◌, ◌≢◌, ◌⊎◌, ℕ, ◌+◌, ◌-◌, ◌^◌, min, Bool, true, false, List, [], ◌∷◌, ◌++◌, ◌==◌, Result, Ok, Err}
-use Rattle.std.specs.List.{list_any}
+use Rattle.std.specs.Prelude.{◌≡◌, ◌≢◌, ◌⊎◌, ℕ, ◌+◌, ◌-◌, ◌^◌, ◌<◌, ◌≤◌, min, Bool, true, false, List, [], ◌∷◌, ◌++◌, ◌==◌, Result, Ok, Err}
+use Rattle.std.specs.List.{AllByRecursion, list_any}
 use Rattle.pn_text.specs.declared.fault.DevFault.{DevFault}
 use Rattle.pn_text.specs.declared.fault.DevFault.TheVariants.{Failed, Memory}
 use Rattle.pn_storecore.specs.declared.step.StoreStep.{StoreStep}
@@ -12,48 +12,59 @@ use Rattle.pn_storecore.specs.Lawful.{IsLawful}
 abbrev pub Scheduled : Type 0
 Scheduled = ℕ × ℕ × StoreStep
 
--- The steps of others in their order, the numbers of the calls that fail, and that of the next call.
+-- The steps of others that are still to come, in their order, which calls fail, the number of the next call, and
+-- how many calls failed.
 pub record Script : Type 0 where
   pub others : List Scheduled
-  pub fail : List ℕ
+  pub fails : ℕ → Bool
   pub next : ℕ
+  pub faults : ℕ
 
--- The step is scheduled for this call, it is another installer's, and it is lawful where its turn comes.
-pub record IsDue (me call : ℕ) (w : World) (e : Scheduled) : Type 0 where
-  pub here : e.0 ≡ call
+-- The step is another installer's, and it is lawful where its turn comes.
+pub record IsDue (me : ℕ) (w : World) (e : Scheduled) : Type 0 where
   pub theirs : e.1 ≢ me
   pub lawful : IsLawful e.1 e.2 w
 
--- the steps that come before a call: each that is due when its turn comes, in their order, and no others
-abbrev pub AreDue : ℕ → ℕ → World → List Scheduled → Journal → Type 0
-AreDue me call w [] came = came ≡ []
-AreDue me call w (e ∷ es) came =
-    (IsDue me call w e × ((rest : Journal) × (came ≡ (e.1, e.2) ∷ rest) × AreDue me call (after e.1 e.2 w) es rest))
-    ⊎ ((IsDue me call w e → ⊥) × AreDue me call w es came)
+-- the steps that come of entries which have their turn one after the other: each that is due there, and no others
+abbrev pub AreDue : ℕ → World → List Scheduled → Journal → Type 0
+AreDue me w [] came = came ≡ []
+AreDue me w (e ∷ es) came =
+    (IsDue me w e × ((rest : Journal) × (came ≡ (e.1, e.2) ∷ rest) × AreDue me (after e.1 e.2 w) es rest))
+    ⊎ ((IsDue me w e → ⊥) × AreDue me w es came)
+
+-- The first entries had their turn before a call, none of them for a later one, and the others are still to come.
+-- Their steps that are due came, and then these.
+pub record DueCame (me call : ℕ) (schedule later : List Scheduled) (old own new : Journal) : Type 0 where
+  pub turned : List Scheduled
+  pub came : Journal
+  pub first : schedule ≡ turned ++ later
+  pub reached : AllByRecursion (λ (e : Scheduled). e.0 ≤ call) turned
+  pub due : AreDue me (world_of old) turned came
+  pub grew : new ≡ old ++ came ++ own
+
+-- no entry is left, or the next one is for a later call
+abbrev pub IsLater : ℕ → List Scheduled → Type 0
+IsLater call [] = Unit {0}
+IsLater call (e ∷ es) = call < e.0
 
 -- whether the number is one of those
 abbrev pub is_listed : List ℕ → ℕ → Bool
 is_listed numbers n = list_any (λ m. m == n) numbers
 
--- the number of the call after one
-abbrev pub call_after : ℕ → ℕ
-call_after n = min (n + 1) (2 ^ 64 - 1)
+-- a count with one more, which stands still at its type's end
+abbrev pub count_after : ℕ → ℕ
+count_after n = min (n + 1) (2 ^ 64 - 1)
 
--- The scheduled steps that are due came, and then these.
-pub record DueCame (me call : ℕ) (schedule : List Scheduled) (old own new : Journal) : Type 0 where
-  pub came : Journal
-  pub due : AreDue me call (world_of old) schedule came
-  pub grew : new ≡ old ++ came ++ own
-
--- a call that isn't listed makes its own steps, and one that is listed fails without them; where memory
--- was wanted this says nothing
+-- A call that doesn't fail comes after all the entries that have their turn before it, and makes its own steps. One
+-- that fails comes after them too, makes none, and counts as a fault. Where memory was wanted, some of those entries
+-- had their turn, and no own step was made.
 abbrev pub Ran : {T : Type 0} → ℕ → Script → Journal → Journal → Journal → Script → Result T DevFault → Type 0
-Ran me plan old own new now (Ok v) = (is_listed plan.fail plan.next ≡ false) × DueCame me plan.next plan.others old own new × (now.next ≡ call_after plan.next)
-Ran me plan old own new now (Err Failed) = (is_listed plan.fail plan.next ≡ true) × DueCame me plan.next plan.others old [] new × (now.next ≡ call_after plan.next)
-Ran me plan old own new now (Err Memory) = Unit {0}
+Ran me plan old own new now (Ok v) = (plan.fails plan.next ≡ false) × DueCame me plan.next plan.others now.others old own new × IsLater plan.next now.others × (now.faults ≡ plan.faults)
+Ran me plan old own new now (Err Failed) = (plan.fails plan.next ≡ true) × DueCame me plan.next plan.others now.others old [] new × IsLater plan.next now.others × (now.faults ≡ count_after plan.faults)
+Ran me plan old own new now (Err Memory) = DueCame me plan.next plan.others now.others old [] new × (now.faults ≡ plan.faults)
 
--- A call went by the script, which stays but for the number of the next call.
+-- A call went by the script, and was counted, whatever it answered.
 pub record Goes {T : Type 0} (me : ℕ) (plan : Script) (old own new : Journal) (now : Script) (result : Result T DevFault) : Type 0 where
   pub ran : Ran me plan old own new now result
-  pub others : now.others ≡ plan.others
-  pub fail : now.fail ≡ plan.fail
+  pub next : now.next ≡ count_after plan.next
+  pub fails : now.fails ≡ plan.fails

@@ -7,7 +7,8 @@ use Rattle.pn_storecore.specs.declared.sure.SureStore.{SureStore}
 use Rattle.pn_storecore.specs.declared.mem.MemStore.{MemStore}
 use Rattle.pn_storecore.specs.Steps.{Journal}
 use Rattle.pn_storecore.specs.Seen.{Seen}
-use Rattle.pn_storecore.specs.Script.{Script, Goes}
+use Rattle.pn_storecore.specs.Script.{Script, Goes, is_listed}
+use Rattle.pn_storecore.specs.Schedule.{to_come}
 
 -- the steps on a store
 abbrev pub sure_journal : SureStore → Journal
@@ -23,7 +24,7 @@ abbrev pub mem_seen : MemStore → Seen
 mem_seen s = record { journal = Some (mem_journal s); me = s.store.me; faults = s.turns.faults }
 
 abbrev pub script_of : MemStore → Script
-script_of s = record { others = s.others.items; fail = s.turns.fail.items; next = s.turns.calls }
+script_of s = record { others = to_come s.schedule; fails = is_listed s.turns.fail.items; next = s.turns.calls; faults = s.turns.faults }
 
 -- a call before which no other installer made a step; where memory was wanted its own step was not made
 abbrev pub Alone : {T : Type 0} → SureStore → StoreStep → SureStore → Result T DevFault → Type 0

@@ -18,6 +18,7 @@ mod mem;
 mod objects;
 mod others;
 mod piece;
+mod schedule;
 mod step;
 mod sure;
 mod temps;

@@ -3,10 +3,11 @@ ghost use Rattle.std.specs.Prelude.{◌≡◌, []};
 ghost use Rattle.pn_text.specs.Causes.{HasCause};
 ghost use Rattle.pn_storecore.specs.Seen.{Seen, fresh};
 ghost use Rattle.pn_storecore.specs.Came.{OthersCame};
-ghost use Rattle.pn_storecore.specs.Script.{Goes};
+ghost use Rattle.pn_storecore.specs.Script.{Goes, is_listed};
 ghost use Rattle.pn_storecore.specs.Told.{told_lawful};
 
 use crate::disk::StoreDisk;
+use crate::schedule::Schedule;
 use crate::step::{Discard, Place, StoreStep};
 use crate::sure::SureStore;
 use crate::turns::Turns;
@@ -19,16 +20,18 @@ use std::alloc::Global;
 #[derive(Drop)]
 pub struct MemStore {
     store: SureStore,
-    others: Vec<(u64, u64, StoreStep)>,
+    schedule: Schedule,
     turns: Turns,
 }
 
 impl MemStore {
     ghost use Rattle.pn_storecore.specs.Stores.{mem_journal, script_of};
 
-    /// An empty store, for the installer `me`. Each of `others` is a call's number, an installer and
-    /// its step, which comes before that call; one that isn't lawful there, or is by `me`, is passed
-    /// over. The calls with the numbers `fail` fail; the first one is 0.
+    /// An empty store, for the installer `me`. The calls with the numbers `fail` fail; the first one
+    /// is 0. Each of `others` is a call's number, an installer and its step. They have their turn in
+    /// the order of the list, each once: before a call come, one after the other, those up to the
+    /// first one that is for a later call. One that isn't lawful when its turn comes, or is by `me`,
+    /// is passed over.
     pub fn new(
         alloc: Global,
         me: u64,
@@ -36,25 +39,26 @@ impl MemStore {
         fail: Vec<u64>,
     ) -> MemStore
         ensures seen { ⟦<MemStore as StoreDisk>⟧.seen result ≡ fresh me }
-        ensures script { script_of result ≡ record { others = others.items; fail = fail.items; next = 0 } }
+        ensures script { script_of result ≡ record { others = others.items; fails = is_listed fail.items; next = 0; faults = 0 } }
     {
         MemStore {
             store: SureStore::new(alloc, me),
-            others,
+            schedule: Schedule::new(others),
             turns: Turns::new(fail),
         }
     }
 
-    // Lets the others' steps come that stand before this call, and counts it.
+    // Counts this call, and lets the others' steps come that stand before it. One that is to fail does
+    // so after them.
     fn turn(&mut self) -> Result<(), DevFault>
         ensures came { OthersCame self.old.store.me self.old.store.ledger.journal.items self.new.store.ledger.journal.items }
         ensures me { self.new.store.me ≡ self.old.store.me }
         ensures script { Goes self.old.store.me (script_of self.old) (mem_journal self.old) [] (mem_journal self.new) (script_of self.new) result }
         ensures cause { HasCause self.old.turns.faults self.new.turns.faults result }
     {
-        let call = self.turns.calls;
-        self.store.others_come(call, &self.others)?;
-        self.turns.take()
+        let call = self.turns.count();
+        self.store.others_come(call, &mut self.schedule)?;
+        self.turns.answer(call)
     }
 }
 
@@ -160,7 +164,7 @@ impl StoreDisk for MemStore {
         ensures cause { HasCause (mem_seen self.old).faults (mem_seen self.new).faults result }
         ensures script { GoesBy self.old step.Read self.new result }
     {
-        self.turn()?;
+        self.turn()?; // the answer is by the world that the others left
         self.store.read(place, at, from, into)
     }
 

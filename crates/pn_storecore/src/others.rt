@@ -1,27 +1,30 @@
 // The steps of other installers on a store in memory.
-ghost use Rattle.std.specs.Prelude.{OnOk, [], ◌∷◌};
+ghost use Rattle.std.specs.Prelude.{◌≡◌, ◌++◌, OnOk, OnErr, [], ◌∷◌};
+ghost use Rattle.pn_storecore.specs.Steps.{Journal, world_of};
 ghost use Rattle.pn_storecore.specs.Came.{OthersCame};
-ghost use Rattle.pn_storecore.specs.Script.{DueCame};
+ghost use Rattle.pn_storecore.specs.Script.{AreDue, DueCame, IsLater};
+ghost use Rattle.pn_storecore.specs.Schedule.{to_come};
 
 use crate::check::is_lawful;
 use crate::ledger::Ledger;
+use crate::schedule::Schedule;
 use crate::step::StoreStep;
 use pn_text::Memory;
 use std::alloc::Global;
 
-// Makes a step of another installer, if it comes before this call and is lawful.
+// Makes a step of another installer, if it is lawful.
 fn comes(
     alloc: Global,
     ledger: &mut Ledger,
     me: u64,
-    call: u64,
     scheduled: &(u64, u64, StoreStep),
 ) -> Result<(), Memory>
     ensures came { OthersCame me ledger.old.journal.items ledger.new.journal.items }
-    ensures due { OnOk result (DueCame me call (scheduled.now ∷ []) ledger.old.journal.items [] ledger.new.journal.items) }
+    ensures due { OnOk result ((came : Journal) × AreDue me (world_of ledger.old.journal.items) (scheduled.now ∷ []) came × (ledger.new.journal.items ≡ ledger.old.journal.items ++ came)) }
+    ensures err { OnErr result (ledger.new.journal.items ≡ ledger.old.journal.items) }
 {
-    let (at, who, step) = scheduled;
-    if *at != call || *who == me {
+    let (_, who, step) = scheduled;
+    if *who == me {
         return Ok(());
     }
     if !is_lawful(alloc, &ledger.world, *who, step)? {
@@ -31,19 +34,21 @@ fn comes(
 }
 
 /// Makes the steps of other installers that come before a call, in their order. One that isn't lawful
-/// is passed over.
+/// is passed over. Where memory is wanted, what had no turn yet is still to come.
 pub fn others_come(
     alloc: Global,
     ledger: &mut Ledger,
     me: u64,
     call: u64,
-    others: &[(u64, u64, StoreStep)],
+    schedule: &mut Schedule,
 ) -> Result<(), Memory>
     ensures came { OthersCame me ledger.old.journal.items ledger.new.journal.items }
-    ensures due { OnOk result (DueCame me call others.now ledger.old.journal.items [] ledger.new.journal.items) }
+    ensures due { DueCame me call (to_come schedule.old) (to_come schedule.new) ledger.old.journal.items [] ledger.new.journal.items }
+    ensures all { OnOk result (IsLater call (to_come schedule.new)) }
 {
-    for scheduled in others {
-        comes(alloc, ledger, me, call, scheduled)?;
+    'entries: while let Some(scheduled) = schedule.next(call) {
+        comes(alloc, ledger, me, scheduled)?;
+        schedule.pass();
     }
     Ok(())
 }

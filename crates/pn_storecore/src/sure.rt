@@ -4,20 +4,22 @@ ghost use Rattle.pn_storecore.specs.Steps.{world_of};
 ghost use Rattle.pn_storecore.specs.Lawful.{IsLawful, IsDiscard};
 ghost use Rattle.pn_storecore.specs.Seen.{Seen, fresh};
 ghost use Rattle.pn_storecore.specs.Came.{OthersCame};
-ghost use Rattle.pn_storecore.specs.Script.{DueCame};
+ghost use Rattle.pn_storecore.specs.Script.{DueCame, IsLater};
+ghost use Rattle.pn_storecore.specs.Schedule.{to_come};
 ghost use Rattle.pn_storecore.specs.Told.{told_lawful};
 
 use crate::bytes::Bytes;
 use crate::disk::StoreDisk;
 use crate::ledger::Ledger;
 use crate::others::others_come;
+use crate::schedule::Schedule;
 use crate::step::{Discard, Place, StoreStep};
 use crate::temps;
 use pn_digest::Digest;
 use pn_text::DevFault;
 use std::alloc::Global;
 
-/// A store in memory that one installer uses. No call fails: `Memory` is the only refusal.
+/// A store in memory. No call fails: `Memory` is the only refusal. A call makes no step but its own.
 #[derive(Drop)]
 pub struct SureStore {
     alloc: Global,
@@ -52,17 +54,14 @@ impl SureStore {
     }
 
     /// Lets the steps of other installers come that stand before a call.
-    pub(crate) fn others_come(
-        &mut self,
-        call: u64,
-        others: &[(u64, u64, StoreStep)],
-    ) -> Result<(), DevFault>
+    pub(crate) fn others_come(&mut self, call: u64, schedule: &mut Schedule) -> Result<(), DevFault>
         ensures came { OthersCame self.old.me self.old.ledger.journal.items self.new.ledger.journal.items }
-        ensures due { OnOk result (DueCame self.old.me call others.now self.old.ledger.journal.items [] self.new.ledger.journal.items) }
+        ensures due { DueCame self.old.me call (to_come schedule.old) (to_come schedule.new) self.old.ledger.journal.items [] self.new.ledger.journal.items }
+        ensures all { OnOk result (IsLater call (to_come schedule.new)) }
         ensures me { self.new.me ≡ self.old.me }
         ensures cause { IfErr result (λ e. e ≡ DevFault.Memory) }
     {
-        others_come(self.alloc, &mut self.ledger, self.me, call, others)?;
+        others_come(self.alloc, &mut self.ledger, self.me, call, schedule)?;
         Ok(())
     }
 }

@@ -10,7 +10,13 @@ use std::test::Fail;
 const LISTING: &[u8] =
     b"ddaf35a193617abacc417349ae20413112e6fa4e89a97ea20a9eeee64b55d39a2192992a274fc1a836ba3c23a3feebbd454d4423643ce80e2a9ac94fa54ca49f x\n";
 
-// No step is skipped.
+// Bytes that no other installer puts, and the text of the listing of one file `x` with them.
+const OURS: &[u8] = b"xyz";
+
+const OUR_LISTING: &[u8] =
+    b"4a3ed8147e37876adc8f76328e5abcc1b470e6acfc18efea0135f983604953a58e183c1a6086e91ba3e821d926f5fdeb37761c7ca0328a963f5e92870675b728 x\n";
+
+// No step is skipped, or no call fails.
 const NONE: u64 = 99;
 
 // What an installer does, step by step, that puts a file and its listing into the store.
@@ -30,15 +36,34 @@ fn step_at(alloc: Global, i: u64) -> Result<StoreStep, Fail> {
     }
 }
 
-// A store where installer 2 makes these steps, each so many calls after the last.
-fn beside(alloc: Global, first: u64, end: u64, skipped: u64, apart: u64) -> Result<MemStore, Fail> {
+// What installer 2 does, each step so many calls after the last.
+fn steps(
+    alloc: Global,
+    first: u64,
+    end: u64,
+    skipped: u64,
+    apart: u64,
+) -> Result<Vec<(u64, u64, StoreStep)>, Fail> {
     let mut others = Vec::new(alloc);
     for i in first..end {
         if i != skipped {
             others.push((i.saturating_mul(apart), 2u64, step_at(alloc, i)?))?;
         }
     }
+    Ok(others)
+}
+
+// A store where installer 2 makes these steps.
+fn beside(alloc: Global, first: u64, end: u64, skipped: u64, apart: u64) -> Result<MemStore, Fail> {
+    let others = steps(alloc, first, end, skipped, apart)?;
     Ok(MemStore::new(alloc, 1, others, Vec::new(alloc)))
+}
+
+// Whether these bytes stand whole at their address.
+fn reads_back(disk: &mut MemStore, place: Place, bytes: &[u8]) -> Result<bool, DevFault> {
+    let mut into = [0u8; 200];
+    let found = disk.read(place, &digest(bytes), 0, &mut into)?;
+    Ok(found == Some(bytes.len()) && into.as_slice().starts_with(bytes))
 }
 
 // How many files and listings stand, and how many numbers are claimed.
@@ -85,6 +110,96 @@ fn another_installer_stops_before_its_listing(rt: HostRuntime) -> Result<(), Fai
     assert_eq!(rt; counts(&mut disk)?, (1, 0, 2));
     disk.discard(Discard::Temp(0))?;
     assert_eq!(rt; counts(&mut disk)?, (1, 0, 1));
+    Ok(())
+}
+
+// The other installer ends first, or takes turns with ours, or stops before its listing. It has the
+// number 0 in the last two, and in the last one keeps it. Ours puts the same, or something else.
+#[test]
+fn what_ours_put_stands_beside_another_installer(rt: HostRuntime) -> Result<(), Fail> {
+    let alloc = rt.alloc();
+    for (end, apart, number, left) in [(11, 0, 0, 0), (11, 1, 1, 0), (9, 0, 1, 1)] {
+        for (bytes, text, more) in [(b"abc".as_slice(), LISTING, 0), (OURS, OUR_LISTING, 1)] {
+            let mut disk = beside(alloc, 0, end, NONE, apart)?;
+            if number == 1 {
+                assert!(rt; !put(alloc, &mut disk, 0, bytes)??);
+            }
+            assert!(rt; put(alloc, &mut disk, number, bytes)??);
+            assert!(rt; reads_back(&mut disk, Place::Files, b"abc")?);
+            assert!(rt; reads_back(&mut disk, Place::Files, bytes)?);
+            assert!(rt; reads_back(&mut disk, Place::Listings, text)?);
+            let (files, listings, numbers) = counts(&mut disk)?;
+            assert_eq!(rt; files, 1 + more);
+            assert_eq!(rt; listings, if left == 1 { 1 } else { 1 + more });
+            assert_eq!(rt; numbers, left);
+        }
+    }
+    Ok(())
+}
+
+// Of such a put each call fails once. What was published before it is read back: the file from the
+// seventh call on, and the listing from the fifteenth.
+#[test]
+fn what_ours_published_is_read_back_after_each_call(rt: HostRuntime) -> Result<(), Fail> {
+    let alloc = rt.alloc();
+    for (end, apart, number) in [(11, 0, 0u32), (11, 1, 1), (9, 0, 1)] {
+        for call in 0..15u64 {
+            let fail = vec![in alloc; u64::from(number) + call]?;
+            let mut disk = MemStore::new(alloc, 1, steps(alloc, 0, end, NONE, apart)?, fail);
+            if number == 1 {
+                assert!(rt; !put(alloc, &mut disk, 0, OURS)??);
+            }
+            assert_eq!(rt; put(alloc, &mut disk, number, OURS)?, Err(DevFault::Failed));
+            assert_eq!(rt; reads_back(&mut disk, Place::Files, OURS)?, call > 5);
+            assert_eq!(rt;
+                reads_back(&mut disk, Place::Listings, OUR_LISTING)?,
+                call > 13
+            );
+        }
+    }
+    Ok(())
+}
+
+// Two entries for one call, one by our installer, one for an earlier call than the entry before it,
+// and one past the last call. A call that fails comes after its entries too.
+#[test]
+fn entries_have_their_turn_in_the_order_of_the_list(rt: HostRuntime) -> Result<(), Fail> {
+    let alloc = rt.alloc();
+    let mut others = Vec::new(alloc);
+    for (call, who, k) in [
+        (0, 2, 0),
+        (0, 1, 5),
+        (0, 2, 1),
+        (3, 2, 2),
+        (1, 2, 3),
+        (9, 2, 4),
+    ] {
+        others.push((call, who, StoreStep::Claim(k)))?;
+    }
+    let fail = vec![in alloc; 5u64, 3]?;
+    let mut disk = MemStore::new(alloc, 1, others, fail);
+    for _ in 0..3 {
+        assert_eq!(rt; disk.numbers()?.as_slice(), [0u32, 1].as_slice());
+    }
+    assert!(rt; matches!(disk.numbers(), Err(DevFault::Failed)));
+    assert_eq!(rt; disk.numbers()?.as_slice(), [0u32, 1, 2, 3].as_slice());
+    Ok(())
+}
+
+#[test]
+fn many_entries_come_before_many_calls(rt: HostRuntime) -> Result<(), Fail> {
+    let alloc = rt.alloc();
+    let mut others = Vec::new(alloc);
+    let mut fail = Vec::new(alloc);
+    for k in 0..10_000u32 {
+        others.push((u64::from(k), 2u64, StoreStep::Claim(k)))?;
+        fail.push(20_001 - u64::from(k))?;
+    }
+    let mut disk = MemStore::new(alloc, 1, others, fail);
+    for k in 0..10_000u32 {
+        assert!(rt; !disk.claim(k)?);
+    }
+    assert_eq!(rt; disk.numbers()?.len(), 10_000);
     Ok(())
 }
 

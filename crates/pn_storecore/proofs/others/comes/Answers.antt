@@ -9,9 +9,8 @@ returns-clause-due c =
     let e = c.args.scheduled.now in
     let j = c.args.ledger.now.journal.items in
     let k = c.take.new.self.journal.items in
-    came_on c.take.result c.args.me c.args.call e j k
+    came_on c.take.result c.args.me e j k
     (record {
-      here = c.if-at-call.false;
       theirs = c.if-who-me.false;
       lawful = subst (IsLawful e.1 e.2) (sym c.args.ledger.now.made) (c.in_ok-is_lawful.ensures.0 c.if-not-branch.false);
     })

@@ -1,10 +1,14 @@
-use Rattle.std.proofs.Common.{[], take}
+use Rattle.std.proofs.Common.{[], length}
 use Rattle.pn_storecore.specs.Came.{OthersCame}
 use Rattle.pn_storecore.specs.Script.{DueCame}
+use Rattle.pn_storecore.specs.Schedule.{to_come}
 use Rattle.pn_storecore.proofs.others.others_come.Given as goal
 
-abbrev pub invariant-loop-scheduled : goal.invariant-loop-scheduled
-invariant-loop-scheduled l = record {
+abbrev pub invariant-entries : goal.invariant-entries
+invariant-entries l = record {
   came : OthersCame l.me l.fn.ledger.journal.items l.ledger.journal.items;
-  due : DueCame l.me l.call (take l.scheduled-index l.others) l.fn.ledger.journal.items [] l.ledger.journal.items;
+  due : DueCame l.me l.call (to_come l.fn.schedule) (to_come l.schedule) l.fn.ledger.journal.items [] l.ledger.journal.items;
 }
+
+abbrev pub decreases-entries : goal.decreases-entries
+decreases-entries l = length (to_come l.schedule)
