@@ -12,6 +12,8 @@ pub mod Sets
 pub mod Told
 pub mod Came
 pub mod Held
+pub mod Grew
 pub mod CallLaws
+pub mod DiscardLaws
 pub mod Script
 pub mod Stores
