@@ -1,10 +1,10 @@
 -- Whose step made a number's folder.
-use Rattle.std.proofs.Common.{◌≡◌, ◌≢◌, ℕ, Bool, true, false, List, [], ◌∷◌, ◌++◌, refl, sym, ap, ◌∙◌, subst, append-nil, append_assoc, ◌⊎◌, inl, inr, Some, None, Ok, Err}
+use Rattle.std.proofs.Common.{◌≡◌, ◌≢◌, ℕ, Bool, true, false, [], ◌∷◌, ◌++◌, refl, sym, ap, ◌∙◌, subst, append-nil, append_assoc, ◌⊎◌, inl, inr, Some, None, Ok, Err}
 use Rattle.std.specs.Prelude.{Option, Result, IfOk, OnErr, IfSome}
 use Rattle.std.specs.Bool.{OnTrue, OnFalse}
 use Rattle.pn_text.specs.declared.fault.DevFault.{DevFault}
 use Rattle.pn_storecore.specs.declared.step.StoreStep.{StoreStep}
-use Rattle.pn_storecore.specs.declared.step.StoreStep.TheVariants.{Claim, Append}
+use Rattle.pn_storecore.specs.declared.step.StoreStep.TheVariants.{Claim}
 use Rattle.pn_storecore.specs.World.{Temp, World, empty}
 use Rattle.pn_storecore.specs.Steps.{Journal, Event, after, world_after, world_of}
 use Rattle.pn_storecore.specs.Lawful.{AreOthers}
@@ -15,7 +15,7 @@ use Rattle.pn_storecore.specs.Grew.{DidTo, Did, GrewTo, Grew, claiming, StoodTo,
 use Rattle.pn_storecore.specs.CallLaws.{ClaimsLaw}
 use Rattle.pn_storecore.proofs.Journals.{after_both}
 use Rattle.pn_storecore.proofs.Owners.{owners}
-use Rattle.pn_storecore.proofs.Holding.{folder, told_once, untold, by_told, HasFiles}
+use Rattle.pn_storecore.proofs.Holding.{folder, told_once, untold, HasFiles}
 use Rattle.pn_storecore.proofs.Called.{if_told, told_if, part_case}
 use Rattle.pn_storecore.proofs.Growing.{keeps_none, keeps_both}
 

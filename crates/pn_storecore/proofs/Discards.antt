@@ -1,28 +1,25 @@
 -- What a discard takes away and leaves.
 use Rattle.std.proofs.Common.{◌≡◌, ℕ, List, true, [], ◌∷◌, refl, sym, ap, ◌∙◌, subst, inl, inr, Some, None, Ok, Err}
-use Rattle.std.specs.Prelude.{Option, Result, OnOk}
+use Rattle.std.specs.Prelude.{Result, OnOk}
 use Rattle.pn_text.specs.declared.fault.DevFault.{DevFault}
-use Rattle.pn_digest.specs.Listing.{Names}
 use Rattle.pn_storecore.specs.declared.step.Place.{Place}
 use Rattle.pn_storecore.specs.declared.step.Place.TheVariants.{Files, Listings}
 use Rattle.pn_storecore.specs.declared.step.Discard.{Discard}
 use Rattle.pn_storecore.specs.declared.step.Discard.TheVariants as what
-use Rattle.pn_storecore.specs.declared.step.StoreStep.{StoreStep}
 use Rattle.pn_storecore.specs.declared.step.StoreStep.TheVariants as step
-use Rattle.pn_storecore.specs.World.{Temp, World, objects, Stands}
+use Rattle.pn_storecore.specs.World.{World, objects, Stands}
 use Rattle.pn_storecore.specs.Steps.{Journal, after, world_after, world_of, discarded}
 use Rattle.pn_storecore.specs.Lawful.{AreLawful}
-use Rattle.pn_storecore.specs.Stored.{IsStoredListing}
 use Rattle.pn_storecore.specs.Sound.{IsSound}
 use Rattle.pn_storecore.specs.Seen.{Seen, Keeps}
 use Rattle.pn_storecore.specs.Calls.{Does}
 use Rattle.pn_storecore.specs.Held.{HasShard, HasObject, Lacks, IsFree, IsSoundStore}
 use Rattle.pn_storecore.specs.Grew.{Did}
-use Rattle.pn_storecore.specs.DiscardLaws.{IsOf, IsUnnamed, DiscardLaw}
+use Rattle.pn_storecore.specs.DiscardLaws.{IsOf, DiscardLaw}
 use Rattle.pn_storecore.proofs.Keys.{at_number, at_address}
 use Rattle.pn_storecore.proofs.Published.{emptied_at, sound_steps, files_stay, listings_stay}
 use Rattle.pn_storecore.proofs.Owners.{shards_stay, listing_shards_stay}
-use Rattle.pn_storecore.proofs.Grown.{Grown, before, world_now, grown}
+use Rattle.pn_storecore.proofs.Grown.{before, world_now, grown}
 use Rattle.pn_storecore.proofs.Leaving.{put_here}
 use Rattle.pn_storecore.proofs.Called.{told_part}
 use Rattle.pn_storecore.proofs.Worlds.{sound_file}

@@ -1,16 +1,15 @@
 -- How calls grow a told journal by lawful steps, and what keeps standing.
-use Rattle.std.proofs.Common.{◌≡◌, ◌≢◌, ℕ, List, true, [], ◌∷◌, ◌++◌, refl, sym, ap, ◌∙◌, subst, append-nil, append_assoc, inl, inr, Some, None}
+use Rattle.std.proofs.Common.{◌≡◌, ℕ, List, [], ◌∷◌, ◌++◌, refl, sym, ap, ◌∙◌, subst, append-nil, append_assoc, inl, inr, Some, None}
 use Rattle.std.specs.Prelude.{Option, IfSome}
-use Rattle.sha2.specs.Sha512.{sha512}
 use Rattle.pn_storecore.specs.declared.step.Place.{Place}
 use Rattle.pn_storecore.specs.declared.step.Place.TheVariants.{Files, Listings}
 use Rattle.pn_storecore.specs.declared.step.StoreStep.{StoreStep}
-use Rattle.pn_storecore.specs.World.{World, empty, objects, Stands}
+use Rattle.pn_storecore.specs.World.{World, empty, Stands}
 use Rattle.pn_storecore.specs.Steps.{Journal, world_after, world_of}
 use Rattle.pn_storecore.specs.Lawful.{IsLawful, AreLawful}
 use Rattle.pn_storecore.specs.Sound.{IsSound}
 use Rattle.pn_storecore.specs.Seen.{Seen, Keeps, Asks, fresh}
-use Rattle.pn_storecore.specs.Held.{HasShard, HasObject, HasDigest, IsSoundStore}
+use Rattle.pn_storecore.specs.Held.{HasShard, HasObject, IsSoundStore}
 use Rattle.pn_storecore.specs.Grew.{DidTo, Did, GrewTo, Grew}
 use Rattle.pn_storecore.specs.CallLaws.{GrewLaw}
 use Rattle.pn_storecore.proofs.Journals.{after_both, lawful_both}
@@ -89,17 +88,6 @@ object_grew old new Listings at g h x told = let c = came old new x g told in su
 sound_grew : (old new : Seen) → Grew old new → IsSoundStore old → IsSoundStore new
 sound_grew old new g h x told = let c = came old new x g told in subst IsSound (sym c.world) (sound_steps (world_of c.was) c.steps (h c.was c.told) c.lawful)
 
-some_bytes : (o : Option (List ℕ)) → o ≢ None → (bytes : List ℕ) × (o ≡ Some bytes)
-some_bytes None h = absurd (h refl)
-some_bytes (Some bytes) h = (bytes, refl)
-
-digest_of : (w : World) (place : Place) (at bytes : List ℕ) → IsSound w → (objects w place).bytes at ≡ Some bytes → sha512 bytes ≡ at
-digest_of w Files at bytes sound h = (sound.files at bytes h).addressed
-digest_of w Listings at bytes sound h = (sound.listings at bytes h).addressed
-
-has_digest : (s : Seen) (place : Place) (at : List ℕ) → IsSoundStore s → HasObject s place at → HasDigest s place at
-has_digest s place at sound h j told = let some = some_bytes ((objects (world_of j) place).bytes at) (h j told) in (some.0, some.1, digest_of (world_of j) place at some.0 (sound j told) some.1)
-
 fresh_sound : (me : ℕ) → IsSoundStore (fresh me)
 fresh_sound me j told = let none : [] ≡ j = cc in subst (λ x. IsSound (world_of x)) none sound_empty
 
@@ -112,5 +100,4 @@ grew = record {
   object = object_grew;
   sound = sound_grew;
   at_first = fresh_sound;
-  digest = has_digest;
 }

@@ -2,6 +2,7 @@
 use Rattle.std.proofs.Common.{◌≡◌, ◌≢◌, ℕ, Bool, true, List, [], ◌∷◌, refl, sym, ap, ◌∙◌, subst, inl, inr, Some, None, Ok, Err, eq-eqb}
 use Rattle.std.specs.Prelude.{Option, Result, IfOk, OnOk, IfSome, Vec, ◌==◌, ◌||◌}
 use Rattle.std.specs.List.{Contains}
+use Rattle.std.specs.Option.{ForSome}
 use Rattle.std.specs.Global.{Global}
 use Rattle.std.specs.Map.{update}
 use Rattle.std.specs.Str.{bytes_eq}
@@ -11,13 +12,15 @@ use Rattle.pn_storecore.specs.declared.step.Place.TheVariants.{Files, Listings}
 use Rattle.pn_storecore.specs.declared.step.Discard.TheVariants as what
 use Rattle.pn_storecore.specs.declared.step.StoreStep.{StoreStep}
 use Rattle.pn_storecore.specs.declared.step.StoreStep.TheVariants.{Claim, Create, Append, Shard, PublishFile, PublishListing, DropTemp, Read, Discard}
-use Rattle.pn_storecore.specs.World.{Temp, World, objects, Stands, content, with_temp}
+use Rattle.pn_storecore.specs.World.{Temp, World, empty, objects, Stands, content, with_temp}
 use Rattle.pn_storecore.specs.Steps.{Journal, after, world_of}
+use Rattle.pn_storecore.specs.Lawful.{AreLawfulOrDiscards}
 use Rattle.pn_storecore.specs.Seen.{Seen, Keeps}
 use Rattle.pn_storecore.specs.Calls.{Answers, Does, IsRead, AreAddresses}
-use Rattle.pn_storecore.specs.Held.{TempFiles, Holds, HasShard, HasObject, HasBytes, Spares}
+use Rattle.pn_storecore.specs.Held.{TempFiles, Holds, HasShard, HasObject, HasBytes, HasDigest, Spares}
 use Rattle.pn_storecore.specs.CallLaws.{StandsLaw, LeavesLaw}
 use Rattle.pn_storecore.proofs.Keys.{at_number, at_address, none_some}
+use Rattle.pn_storecore.proofs.Published.{sound}
 use Rattle.pn_storecore.proofs.Owners.{claim_keeps}
 use Rattle.pn_storecore.proofs.Grown.{Grown, before, world_now, grown}
 use Rattle.pn_storecore.proofs.Holding.{folder, content_held, held_before, held_now, kept_now}
@@ -81,6 +84,13 @@ found_list old new place (Ok all) kept h = λ at here x told.
     let mine = (old.me, Read) ∷ [] in
     subst (λ (w : World). Stands (objects w place) at) (sym (world_now old new x mine g.0)) (g.1.stand at here)
 
+some_bytes : (o : Option (List ℕ)) → o ≢ None → (bytes : List ℕ) × (o ≡ Some bytes)
+some_bytes None h = absurd (h refl)
+some_bytes (Some bytes) h = (bytes, refl)
+
+has_digest : (s : Seen) (place : Place) (at : List ℕ) → ForSome s.journal (λ j. ∥ AreLawfulOrDiscards empty j ∥₁) → HasObject s place at → HasDigest s place at
+has_digest s place at lawful h j told = let some = some_bytes ((objects (world_of j) place).bytes at) (h j told) in (some.0, some.1, sound.addressed j (lawful j told) place at some.0 some.1)
+
 pub stands : StandsLaw
 stands = record {
   shard = sharded;
@@ -89,6 +99,7 @@ stands = record {
   read = found_read;
   list = found_list;
   object = λ s place at bytes h j told. none_some ((objects (world_of j) place).bytes at) bytes (h j told);
+  digest = has_digest;
 }
 
 other_folder : (w : World) (q k : ℕ) (t : Option Temp) → q ≢ k → (with_temp w q t).temps k ≡ w.temps k

@@ -1,13 +1,11 @@
 -- What is known of calls beside which no other installer made a step.
 use Rattle.std.proofs.Common.{◌≡◌, ℕ, List, [], ◌∷◌, ◌++◌, refl, sym, ap, ◌∙◌, subst, append-nil, append_assoc, ◌⊎◌, inl, inr, Some, None, Ok, Err}
-use Rattle.std.specs.Prelude.{Option, Result, IfOk, OnOk, IfSome, Vec}
+use Rattle.std.specs.Prelude.{Option, Result, IfOk, OnOk, IfSome}
 use Rattle.std.specs.List.{AllByRecursion}
 use Rattle.std.specs.Option.{ForSome}
-use Rattle.std.specs.Global.{Global}
 use Rattle.std.proofs.lemmas.List.{append_cancel_left}
 use Rattle.pn_text.specs.declared.fault.DevFault.{DevFault}
 use Rattle.pn_digest.specs.Listing.{Names}
-use Rattle.pn_storecore.specs.declared.step.Place.{Place}
 use Rattle.pn_storecore.specs.declared.step.Discard.{Discard}
 use Rattle.pn_storecore.specs.declared.step.Discard.TheVariants as what
 use Rattle.pn_storecore.specs.declared.step.StoreStep.{StoreStep}

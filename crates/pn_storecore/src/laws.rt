@@ -38,7 +38,7 @@ pub fn holds_law()
     ensures { HoldsLaw }
 {}
 
-/// What was made, published or found stands.
+/// What was made, published or found stands, and what stands has its address as its digest.
 pub fn stands_law()
     ensures { StandsLaw }
 {}

@@ -7,7 +7,7 @@ ghost use Rattle.pn_digest.specs.Listing.{IsListingText, Names};
 ghost use Rattle.pn_storecore.specs.declared.step.Place.TheVariants.{Files, Listings};
 ghost use Rattle.pn_storecore.specs.World.{first_byte};
 ghost use Rattle.pn_storecore.specs.Stored.{IsStoredFile, file_limit};
-ghost use Rattle.pn_storecore.specs.Held.{Holds, HasShard, HasObject, IsFree, IsSoundStore, TempFiles, no_files, files_with};
+ghost use Rattle.pn_storecore.specs.Held.{Holds, HasShard, HasObject, HasDigest, IsFree, IsSoundStore, TempFiles, no_files, files_with};
 ghost use Rattle.pn_storecore.specs.Grew.{Grew};
 
 use crate::{Place, StoreDisk, asks_law, did_law, grew_law, holds_law, leaves_law, stands_law};
@@ -220,11 +220,12 @@ fn put_held<D: StoreDisk>(disk: &mut D, k: u32, bytes: &[u8], text: &[u8]) -> Re
     requires short { length bytes.now ≤ file_limit }
     requires text { IsListingText text.now }
     requires named { (file : List ℕ) → Names text.now file → file ≡ sha512 bytes.now }
-    ensures file { OnOk result (HasObject (D.seen disk.new) Files (sha512 bytes.now)) }
-    ensures listing { OnOk result (HasObject (D.seen disk.new) Listings (sha512 text.now)) }
+    ensures file { OnOk result (HasDigest (D.seen disk.new) Files (sha512 bytes.now)) }
+    ensures listing { OnOk result (HasDigest (D.seen disk.new) Listings (sha512 text.now)) }
     ensures free { OnOk result (IsFree (D.seen disk.new) k) }
     ensures grew { Grew (D.seen disk.old) (D.seen disk.new) }
 {
+    stands_law();
     grew_law();
     put_file(disk, k, bytes)?;
     let found = look(disk, &digest(bytes))?;
@@ -239,8 +240,8 @@ fn put_both<D: StoreDisk>(disk: &mut D, k: u32, bytes: &[u8], text: &[u8]) -> Re
     requires short { length bytes.now ≤ file_limit }
     requires text { IsListingText text.now }
     requires named { (file : List ℕ) → Names text.now file → file ≡ sha512 bytes.now }
-    ensures file { IfOk result (λ done. OnTrue done (HasObject (D.seen disk.new) Files (sha512 bytes.now))) }
-    ensures listing { IfOk result (λ done. OnTrue done (HasObject (D.seen disk.new) Listings (sha512 text.now))) }
+    ensures file { IfOk result (λ done. OnTrue done (HasDigest (D.seen disk.new) Files (sha512 bytes.now))) }
+    ensures listing { IfOk result (λ done. OnTrue done (HasDigest (D.seen disk.new) Listings (sha512 text.now))) }
     ensures free { IfOk result (λ done. OnTrue done (IsFree (D.seen disk.new) k)) }
     ensures grew { Grew (D.seen disk.old) (D.seen disk.new) }
     ensures sound { IsSoundStore (D.seen disk.old) → IsSoundStore (D.seen disk.new) }
@@ -274,7 +275,7 @@ pub fn put<D: StoreDisk>(
     bytes: &[u8],
 ) -> Result<Result<bool, DevFault>, Fail>
     requires { length bytes.now ≤ file_limit }
-    ensures file { IfOk result (λ put. IfOk put (λ done. OnTrue done (HasObject (D.seen disk.new) Files (sha512 bytes.now)))) }
+    ensures file { IfOk result (λ put. IfOk put (λ done. OnTrue done (HasDigest (D.seen disk.new) Files (sha512 bytes.now)))) }
     ensures free { IfOk result (λ put. IfOk put (λ done. OnTrue done (IsFree (D.seen disk.new) k))) }
     ensures grew { Grew (D.seen disk.old) (D.seen disk.new) }
     ensures sound { IsSoundStore (D.seen disk.old) → IsSoundStore (D.seen disk.new) }

@@ -22,9 +22,11 @@ returns-clause-file g c =
     let looked = seen c.look.new.disk in
     let listed = seen c.put_listing.new.disk in
     let end = seen c.release.new.disk in
-    law.object put end Files (sha512 c.args.bytes.now) (law.both put listed end (law.both put looked listed c.look.ensures.grew c.put_listing.ensures.grew) c.release.ensures.grew) c.in_ok-put_file.ensures.stands
+    c.stands_law.ensures.digest end Files (sha512 c.args.bytes.now) (λ j told. g.met.D.StoreDisk.lawful c.release.new.disk j told)
+    (law.object put end Files (sha512 c.args.bytes.now) (law.both put listed end (law.both put looked listed c.look.ensures.grew c.put_listing.ensures.grew) c.release.ensures.grew) c.in_ok-put_file.ensures.stands)
 
 pub returns-clause-listing : goal.returns-clause-listing
 returns-clause-listing g c =
     let seen = g.D.StoreDisk.seen in
-    c.grew_law.ensures.object (seen c.put_listing.new.disk) (seen c.release.new.disk) Listings (sha512 c.args.text.now) c.release.ensures.grew c.in_ok-put_listing.ensures.stands
+    c.stands_law.ensures.digest (seen c.release.new.disk) Listings (sha512 c.args.text.now) (λ j told. g.met.D.StoreDisk.lawful c.release.new.disk j told)
+    (c.grew_law.ensures.object (seen c.put_listing.new.disk) (seen c.release.new.disk) Listings (sha512 c.args.text.now) c.release.ensures.grew c.in_ok-put_listing.ensures.stands)
