@@ -29,7 +29,7 @@ before old new now mine g = world_after (world_of g.was) g.others
 pub world_now : (old new : Seen) (now mine : Journal) (g : Grown old new now mine) → world_of now ≡ world_after (before old new now mine g) mine
 world_now old new now mine g = ap world_of g.came ∙ after_both empty (g.was ++ g.others) mine ∙ ap (λ w. world_after w mine) (after_both empty g.was g.others)
 
-none_told : (old new : Seen) (x : Journal) → Keeps old new → old.journal ≡ None → new.journal ≡ Some x → ⊥
+pub none_told : (old new : Seen) (x : Journal) → Keeps old new → old.journal ≡ None → new.journal ≡ Some x → ⊥
 none_told old new x kept none told = let clash : Some x ≡ None = sym told ∙ kept.untold none in cc
 
 -- after a call that was Ok: its step came, and its answer is by the world before that

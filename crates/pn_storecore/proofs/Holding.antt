@@ -11,7 +11,7 @@ use Rattle.pn_storecore.specs.World.{Temp, World, owner_of, content, with_file, 
 use Rattle.pn_storecore.specs.Steps.{Journal, after, world_after, world_of}
 use Rattle.pn_storecore.specs.Seen.{Seen, Keeps}
 use Rattle.pn_storecore.specs.Calls.{Answers, Does, Appends, IsFront, IsClaim}
-use Rattle.pn_storecore.specs.Held.{TempFiles, no_files, files_with, Holds, IsIn, files_after}
+use Rattle.pn_storecore.specs.Held.{TempFiles, no_files, files_with, Holds, IsFree, IsIn, files_after}
 use Rattle.pn_storecore.specs.CallLaws.{AsksLaw, HoldsLaw}
 use Rattle.pn_storecore.proofs.Keys.{at_number, none_some}
 use Rattle.pn_storecore.proofs.Owners.{others_keep, owners}
@@ -98,17 +98,17 @@ none_none true o = refl
 none_none false o = refl
 
 -- what is so of the one journal that is told
-told_once : (P : Journal → Type 0) (o : Option Journal) (y : Journal) → o ≡ Some y → P y → (x : Journal) → o ≡ Some x → P x
+pub told_once : (P : Journal → Type 0) (o : Option Journal) (y : Journal) → o ≡ Some y → P y → (x : Journal) → o ≡ Some x → P x
 told_once P o y is h x told = let same : y ≡ x = cc in subst P same h
 
 -- a fact for each journal that is told, where it goes by which is told
-by_told : (A : Type 0) (new : Seen) → (new.journal ≡ None → A) → ((y : Journal) → new.journal ≡ Some y → A) → A
+pub by_told : (A : Type 0) (new : Seen) → (new.journal ≡ None → A) → ((y : Journal) → new.journal ≡ Some y → A) → A
 by_told A new none some = elim new.journal as (λ o. new.journal ≡ o → A) [ None ↦ none | Some y ↦ some y ] refl
 
-untold : (P : Journal → Type 0) (o : Option Journal) → o ≡ None → (x : Journal) → o ≡ Some x → P x
+pub untold : (P : Journal → Type 0) (o : Option Journal) → o ≡ None → (x : Journal) → o ≡ Some x → P x
 untold P o is x told = let clash : Some x ≡ None = sym told ∙ is in cc
 
-abbrev HasFiles : Seen → ℕ → TempFiles → Journal → Type 0
+abbrev pub HasFiles : Seen → ℕ → TempFiles → Journal → Type 0
 HasFiles s k files j = (world_of j).temps k ≡ Some (folder s.me files)
 
 module _ (old new : Seen) (kept : Keeps old new) (k : ℕ) (files : TempFiles) where
@@ -149,6 +149,28 @@ claimed_ok old new k (Ok true) kept h = λ x told.
     let mine = (old.me, Claim k) ∷ [] in
     held_now old new x mine k no_files g.0 (owners.free (before old new x mine g.0) old.me k g.1)
 
+-- the folder of a number is gone after the step that drops it
+pub no_folder : (w : World) (who k : ℕ) → (after who (DropTemp k None) w).temps k ≡ None
+no_folder w who k = elim (at_number w.temps k None k) [ inl here ↦ here.1 | inr other ↦ absurd (other.0 refl) ]
+
+freed_now : (old new : Seen) (k : ℕ) (x : Journal) → Grown old new x ((old.me, DropTemp k None) ∷ []) → (world_of x).temps k ≡ None
+freed_now old new k x g =
+    let mine = (old.me, DropTemp k None) ∷ [] in
+    ap (λ (w : World). w.temps k) (world_now old new x mine g) ∙ no_folder (before old new x mine g) old.me k
+
+freed_ok : (old new : Seen) (k : ℕ) (r : Result (Unit {0}) DevFault) → Keeps old new → Does old (DropTemp k None) new r → OnOk r (IsFree new k)
+freed_ok old new k (Err e) kept h = tt
+freed_ok old new k (Ok v) kept h = λ x told. freed_now old new k x (grown v (λ made. made ≡ DropTemp k None) (λ w answer. Unit {0}) old new (DropTemp k None) x kept h told).0
+
+freed_err : (old new : Seen) (k : ℕ) (files : TempFiles) (r : Result (Unit {0}) DevFault) → Keeps old new → Does old (DropTemp k None) new r → Holds old k files → OnErr r (Holds new k files ⊎ IsFree new k)
+freed_err old new k files (Ok v) kept h holds = tt
+freed_err old new k files (Err e) kept h holds = by_told (Holds new k files ⊎ IsFree new k) new
+    (λ none. inl (untold (HasFiles new k files) new.journal none))
+    (λ y is. elim (grown_once {T = Unit {0}} (Err e) (λ w answer. Unit {0}) old new (DropTemp k None) y kept h is) [
+      | inl g ↦ inl (told_once (HasFiles new k files) new.journal y is (kept_now old new y k files g holds))
+      | inr g ↦ inr (told_once (λ j. (world_of j).temps k ≡ None) new.journal y is (freed_now old new k y g))
+    ])
+
 pub holds : HoldsLaw
 holds = record {
   claimed = claimed_ok;
@@ -156,6 +178,8 @@ holds = record {
   refused = λ old new own k files r kept here h holds. made_err old new kept k files own r here h holds;
   appended = λ old new k n more files r kept h holds. appended_ok old new kept k files n more r h holds;
   append_refused = λ old new k n more files r kept h holds. appended_err old new kept k files n more r h holds;
+  freed = freed_ok;
+  free_refused = freed_err;
   again = λ files n old new i m. update-update nat_eq files n old new m i;
   emptied = λ n i m. none_none (nat_eq n m) None i;
 }

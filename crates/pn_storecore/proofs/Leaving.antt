@@ -1,26 +1,30 @@
 -- What stands after an installer's call, and what the call leaves.
-use Rattle.std.proofs.Common.{◌≡◌, ◌≢◌, ℕ, Bool, true, List, [], ◌∷◌, ◌++◌, take, refl, sym, ap, ◌∙◌, subst, ◌⊎◌, inl, inr, Some, None, Ok, Err, eq-eqb}
-use Rattle.std.specs.Prelude.{Option, Result, OnOk, ◌==◌, ◌||◌}
+use Rattle.std.proofs.Common.{◌≡◌, ◌≢◌, ℕ, Bool, true, List, [], ◌∷◌, refl, sym, ap, ◌∙◌, subst, inl, inr, Some, None, Ok, Err, eq-eqb}
+use Rattle.std.specs.Prelude.{Option, Result, IfOk, OnOk, IfSome, Vec, ◌==◌, ◌||◌}
+use Rattle.std.specs.List.{Contains}
+use Rattle.std.specs.Option.{ForSome}
+use Rattle.std.specs.Global.{Global}
 use Rattle.std.specs.Map.{update}
 use Rattle.std.specs.Str.{bytes_eq}
 use Rattle.pn_text.specs.declared.fault.DevFault.{DevFault}
 use Rattle.pn_storecore.specs.declared.step.Place.{Place}
 use Rattle.pn_storecore.specs.declared.step.Place.TheVariants.{Files, Listings}
+use Rattle.pn_storecore.specs.declared.step.Discard.TheVariants as what
 use Rattle.pn_storecore.specs.declared.step.StoreStep.{StoreStep}
 use Rattle.pn_storecore.specs.declared.step.StoreStep.TheVariants.{Claim, Create, Append, Shard, PublishFile, PublishListing, DropTemp, Read, Discard}
-use Rattle.pn_storecore.specs.World.{Temp, World, objects, Stands, content, with_temp}
-use Rattle.pn_storecore.specs.Steps.{Journal, after, world_after, world_of}
-use Rattle.pn_storecore.specs.Lawful.{IsLawful, AreLawful}
-use Rattle.pn_storecore.specs.Seen.{Seen, Keeps, Asks}
-use Rattle.pn_storecore.specs.Calls.{Answers, Does, IsClaim, IsRead, AreAddresses, AreNumbersOf}
-use Rattle.pn_storecore.specs.Held.{TempFiles, Holds, HasShard, HasObject, HasBytes, Spares}
-use Rattle.pn_storecore.specs.CallLaws.{StandsLaw, Leaves, LeavesLaw}
+use Rattle.pn_storecore.specs.World.{Temp, World, empty, objects, Stands, content, with_temp}
+use Rattle.pn_storecore.specs.Steps.{Journal, after, world_of}
+use Rattle.pn_storecore.specs.Lawful.{AreLawfulOrDiscards}
+use Rattle.pn_storecore.specs.Seen.{Seen, Keeps}
+use Rattle.pn_storecore.specs.Calls.{Answers, Does, IsRead, AreAddresses}
+use Rattle.pn_storecore.specs.Held.{TempFiles, Holds, HasShard, HasObject, HasBytes, HasDigest, Spares}
+use Rattle.pn_storecore.specs.CallLaws.{StandsLaw, LeavesLaw}
 use Rattle.pn_storecore.proofs.Keys.{at_number, at_address, none_some}
-use Rattle.pn_storecore.proofs.Journals.{after_both, lawful_both}
-use Rattle.pn_storecore.proofs.Published.{files_stay, listings_stay}
-use Rattle.pn_storecore.proofs.Owners.{claim_keeps, shards_stay, listing_shards_stay, place}
-use Rattle.pn_storecore.proofs.Grown.{Grown, before, world_now, grown, grown_once, grown_front}
+use Rattle.pn_storecore.proofs.Published.{sound}
+use Rattle.pn_storecore.proofs.Owners.{claim_keeps}
+use Rattle.pn_storecore.proofs.Grown.{Grown, before, world_now, grown}
 use Rattle.pn_storecore.proofs.Holding.{folder, content_held, held_before, held_now, kept_now}
+use Rattle.pn_storecore.proofs.Called.{part_case, told_part}
 
 first_stands : (first : ℕ) (old : Bool) → (first == first || old) ≡ true
 first_stands first old = ap (λ b. b || old) (eq-eqb first first refl)
@@ -29,8 +33,12 @@ shard_stands : (w : World) (who : ℕ) (place : Place) (first : ℕ) → (object
 shard_stands w who Files first = first_stands first (w.files.shards first)
 shard_stands w who Listings first = first_stands first (w.listings.shards first)
 
-put_here : (f : List ℕ → Option (List ℕ)) (at : List ℕ) (v : Option (List ℕ)) → update bytes_eq f at v at ≡ v
+pub put_here : (f : List ℕ → Option (List ℕ)) (at : List ℕ) (v : Option (List ℕ)) → update bytes_eq f at v at ≡ v
 put_here f at v = elim (at_address f at v at) [ inl here ↦ here.1 | inr other ↦ absurd (other.0 refl) ]
+
+read_stood : (o : Option (List ℕ)) (from : ℕ) (into : List ℕ) (n : ℕ) → IsRead o from into (Some n) → o ≢ None
+read_stood None from into n h = absurd h
+read_stood (Some bytes) from into n h = λ e. cc
 
 sharded : (old new : Seen) (place : Place) (first : ℕ) (r : Result (Unit {0}) DevFault) → Keeps old new → Does old (Shard place first) new r → OnOk r (HasShard new place first)
 sharded old new place first (Err e) kept h = tt
@@ -58,91 +66,69 @@ module _ (old new : Seen) (k n : ℕ) (at bytes : List ℕ) (files : TempFiles) 
       let w = before old new x mine g in
       ap (λ (v : World). v.listings.bytes at) (world_now old new x mine g) ∙ put_here w.listings.bytes at (content w k n) ∙ content_held w k n old.me files (held_before old new x mine k files g holds) ∙ some
 
+-- what a read found stands after it
+found_read : (old new : Seen) (place : Place) (at : List ℕ) (from : ℕ) (into : List ℕ) (r : Result (Option ℕ) DevFault) → Keeps old new → Answers old Read new r (λ w found. IsRead ((objects w place).bytes at) from into found)
+    → IfOk r (λ found. IfSome found (λ n. HasObject new place at))
+found_read old new place at from into (Err e) kept h = tt
+found_read old new place at from into (Ok None) kept h = tt
+found_read old new place at from into (Ok (Some n)) kept h = λ x told.
+    let g = grown (Some n) (λ made. made ≡ Read) (λ w found. IsRead ((objects w place).bytes at) from into found) old new Read x kept h told in
+    let mine = (old.me, Read) ∷ [] in
+    subst (λ (w : World). Stands (objects w place) at) (sym (world_now old new x mine g.0)) (read_stood ((objects (before old new x mine g.0) place).bytes at) from into n g.1)
+
+found_list : (old new : Seen) (place : Place) (r : Result (Vec (List ℕ) Global) DevFault) → Keeps old new → Answers old Read new r (λ w all. AreAddresses (objects w place) all.items)
+    → IfOk r (λ all. (at : List ℕ) → Contains all.items at → HasObject new place at)
+found_list old new place (Err e) kept h = tt
+found_list old new place (Ok all) kept h = λ at here x told.
+    let g = grown all (λ made. made ≡ Read) (λ w all. AreAddresses (objects w place) all.items) old new Read x kept h told in
+    let mine = (old.me, Read) ∷ [] in
+    subst (λ (w : World). Stands (objects w place) at) (sym (world_now old new x mine g.0)) (g.1.stand at here)
+
+some_bytes : (o : Option (List ℕ)) → o ≢ None → (bytes : List ℕ) × (o ≡ Some bytes)
+some_bytes None h = absurd (h refl)
+some_bytes (Some bytes) h = (bytes, refl)
+
+has_digest : (s : Seen) (place : Place) (at : List ℕ) → ForSome s.journal (λ j. ∥ AreLawfulOrDiscards empty j ∥₁) → HasObject s place at → HasDigest s place at
+has_digest s place at lawful h j told = let some = some_bytes ((objects (world_of j) place).bytes at) (h j told) in (some.0, some.1, sound.addressed j (lawful j told) place at some.0 some.1)
+
 pub stands : StandsLaw
 stands = record {
   shard = sharded;
   file = λ old new k n at bytes files r kept h holds some. filed old new k n at bytes files kept holds some r h;
   listing = λ old new k n at bytes files r kept h holds some. listed old new k n at bytes files kept holds some r h;
+  read = found_read;
+  list = found_list;
   object = λ s place at bytes h j told. none_some ((objects (world_of j) place).bytes at) bytes (h j told);
+  digest = has_digest;
 }
 
 other_folder : (w : World) (q k : ℕ) (t : Option Temp) → q ≢ k → (with_temp w q t).temps k ≡ w.temps k
 other_folder w q k t apart = elim (at_number w.temps q t k) [ inl here ↦ absurd (apart here.0) | inr other ↦ other.1 ]
 
-step_spares : (w : World) (s : StoreStep) (who k : ℕ) → IsLawful who s w → Spares k s → w.temps k ≢ None → (after who s w).temps k ≡ w.temps k
-step_spares w (Claim q) who k h spared some = claim_keeps w who q k (w.temps q) refl some
-step_spares w (Create q n) who k h spared some = other_folder w q k _ spared
-step_spares w (Append q n more) who k h spared some = other_folder w q k _ spared
-step_spares w (Shard Files first) who k h spared some = refl
-step_spares w (Shard Listings first) who k h spared some = refl
-step_spares w (PublishFile q n at) who k h spared some = other_folder w q k _ spared
-step_spares w (PublishListing q n at) who k h spared some = other_folder w q k _ spared
-step_spares w (DropTemp q None) who k h spared some = other_folder w q k None spared
-step_spares w (DropTemp q (Some n)) who k h spared some = other_folder w q k _ spared
-step_spares w Read who k h spared some = refl
-step_spares w (Discard x) who k h spared some = absurd h
+step_spares : (w : World) (s : StoreStep) (who k : ℕ) → Spares k s → w.temps k ≢ None → (after who s w).temps k ≡ w.temps k
+step_spares w (Claim q) who k spared some = claim_keeps w who q k (w.temps q) refl some
+step_spares w (Create q n) who k spared some = other_folder w q k _ spared
+step_spares w (Append q n more) who k spared some = other_folder w q k _ spared
+step_spares w (Shard Files first) who k spared some = refl
+step_spares w (Shard Listings first) who k spared some = refl
+step_spares w (PublishFile q n at) who k spared some = other_folder w q k _ spared
+step_spares w (PublishListing q n at) who k spared some = other_folder w q k _ spared
+step_spares w (DropTemp q None) who k spared some = other_folder w q k None spared
+step_spares w (DropTemp q (Some n)) who k spared some = other_folder w q k _ spared
+step_spares w Read who k spared some = refl
+step_spares w (Discard (what.Temp q)) who k spared some = other_folder w q k None spared
+step_spares w (Discard (what.File at)) who k spared some = refl
+step_spares w (Discard (what.Listing at)) who k spared some = refl
 
-module _ (old new : Seen) (x mine : Journal) (g : Grown old new x mine) (lawful : AreLawful (before old new x mine g) mine) where
-  all_lawful : AreLawful (world_of g.was) (g.others ++ mine)
-  all_lawful = lawful_both (world_of g.was) g.others mine g.lawful lawful
-
-  now_is : world_of x ≡ world_after (world_of g.was) (g.others ++ mine)
-  now_is = world_now old new x mine g ∙ sym (after_both (world_of g.was) g.others mine)
-
-  shard_left : (place : Place) (first : ℕ) → HasShard old place first → (objects (world_of x) place).shards first ≡ true
-  shard_left Files first h = ap (λ (w : World). w.files.shards first) now_is ∙ shards_stay (world_of g.was) (g.others ++ mine) all_lawful first (h g.was g.told)
-  shard_left Listings first h = ap (λ (w : World). w.listings.shards first) now_is ∙ listing_shards_stay (world_of g.was) (g.others ++ mine) all_lawful first (h g.was g.told)
-
-  object_left : (place : Place) (at : List ℕ) → HasObject old place at → Stands (objects (world_of x) place) at
-  object_left Files at h = subst (λ (w : World). Stands w.files at) (sym now_is) (files_stay (world_of g.was) (g.others ++ mine) all_lawful at (h g.was g.told))
-  object_left Listings at h = subst (λ (w : World). Stands w.listings at) (sym now_is) (listings_stay (world_of g.was) (g.others ++ mine) all_lawful at (h g.was g.told))
-
--- what the told journal may have grown by: nothing of the call's own, or a step that spares what the call's step spares and is lawful where that is
-abbrev Part : Seen → Seen → StoreStep → Journal → Type 0
-Part old new own x = Grown old new x [] ⊎ ((made : StoreStep) × ((k : ℕ) → Spares k own → Spares k made) × ((w : World) → IsLawful old.me own w → IsLawful old.me made w) × Grown old new x ((old.me, made) ∷ []))
-
-own_lawful : (old new : Seen) (x : Journal) (own made : StoreStep) → Asks old own → ((w : World) → IsLawful old.me own w → IsLawful old.me made w) → (g : Grown old new x ((old.me, made) ∷ [])) → IsLawful old.me made (before old new x ((old.me, made) ∷ []) g)
-own_lawful old new x own made asked same g = same (world_after (world_of g.was) g.others) (place (world_of g.was) g.others old.me own g.lawful g.theirs (asked g.was g.told))
-
-spared_now : (old new : Seen) (x : Journal) (made : StoreStep) (k : ℕ) (files : TempFiles) (g : Grown old new x ((old.me, made) ∷ [])) → IsLawful old.me made (before old new x ((old.me, made) ∷ []) g) → Spares k made → Holds old k files
-    → (world_of x).temps k ≡ Some (folder new.me files)
-spared_now old new x made k files g lawful spared holds =
+spared_now : (old new : Seen) (x : Journal) (made : StoreStep) (k : ℕ) (files : TempFiles) → Grown old new x ((old.me, made) ∷ []) → Spares k made → Holds old k files → (world_of x).temps k ≡ Some (folder new.me files)
+spared_now old new x made k files g spared holds =
     let mine = (old.me, made) ∷ [] in
     let w = before old new x mine g in
     let h = held_before old new x mine k files g holds in
-    held_now old new x mine k files g (step_spares w made old.me k lawful spared (none_some (w.temps k) (folder old.me files) h) ∙ h)
-
-leaves_part : (old new : Seen) (own : StoreStep) → Asks old own → ((x : Journal) → new.journal ≡ Some x → Part old new own x) → Leaves own old new
-leaves_part old new own asked part = record {
-  folders = λ k files spared holds x told. elim (part x told) [
-    | inl g ↦ kept_now old new x k files g holds
-    | inr p ↦ spared_now old new x p.0 k files p.3 (own_lawful old new x own p.0 asked p.2 p.3) (p.1 k spared) holds
-  ];
-  shards = λ place first h x told. elim (part x told) [
-    | inl g ↦ shard_left old new x [] g tt place first h
-    | inr p ↦ shard_left old new x ((old.me, p.0) ∷ []) p.3 (own_lawful old new x own p.0 asked p.2 p.3, tt) place first h
-  ];
-  objects = λ place at h x told. elim (part x told) [
-    | inl g ↦ object_left old new x [] g tt place at h
-    | inr p ↦ object_left old new x ((old.me, p.0) ∷ []) p.3 (own_lawful old new x own p.0 asked p.2 p.3, tt) place at h
-  ];
-}
-
-once_part : (old new : Seen) (own : StoreStep) (x : Journal) → Grown old new x [] ⊎ Grown old new x ((old.me, own) ∷ []) → Part old new own x
-once_part old new own x h = elim h [ inl g ↦ inl g | inr g ↦ inr (own, λ k s. s, λ w l. l, g) ]
-
-leaves_once : {T : Type 0} (r : Result T DevFault) (Answer : World → T → Type 0) (old new : Seen) (own : StoreStep) → Keeps old new → Asks old own → Answers old own new r Answer → Leaves own old new
-leaves_once r Answer old new own kept asked h = leaves_part old new own asked (λ x told. once_part old new own x (grown_once r Answer old new own x kept h told))
+    held_now old new x mine k files g (step_spares w made old.me k spared (none_some (w.temps k) (folder old.me files) h) ∙ h)
 
 pub leaves : LeavesLaw
-leaves = record {
-  claim = λ old new k r kept h. leaves_once r (IsClaim k) old new (Claim k) kept (λ j told. tt) h;
-  does = λ old new own r kept asked h. leaves_once r (λ w answer. Unit {0}) old new own kept asked h;
-  append = λ old new k n more r kept asked h. leaves_part old new (Append k n more) asked (λ x told. elim (grown_front r old new k n more x kept h told) [
-    | inl g ↦ inl g
-    | inr part ↦ inr (Append k n (take part.0 more), λ q s. s, λ w l. record { owned = l.owned; stands = l.stands }, part.2)
-  ]);
-  read = λ old new place at from into r kept h. leaves_once r (λ w found. IsRead ((objects w place).bytes at) from into found) old new Read kept (λ j told. tt) h;
-  list = λ old new place r kept h. leaves_once r (λ w all. AreAddresses (objects w place) all.items) old new Read kept (λ j told. tt) h;
-  numbers = λ old new r kept h. leaves_once r (λ w all. AreNumbersOf w.temps all.items) old new Read kept (λ j told. tt) h;
-}
+leaves = λ old new own k files called spared holds x told. elim (told_part own old new x called told) [
+  | inl g ↦ kept_now old new x k files g holds
+  | inr p ↦ spared_now old new x p.0 k files p.2 (part_case (Spares k) own p.0 p.1 spared (λ q n a b s. s)) holds
+]

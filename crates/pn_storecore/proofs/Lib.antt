@@ -9,8 +9,13 @@ pub mod Own
 pub mod Standing
 pub mod Behind
 pub mod Grown
+pub mod Called
+pub mod Growing
 pub mod Holding
 pub mod Leaving
+pub mod Claims
+pub mod Discards
+pub mod Worlds
 pub mod Scripts
 pub mod Listed
 pub mod Schedules

@@ -1,18 +1,30 @@
--- What stands at addresses after lawful steps.
-use Rattle.std.proofs.Common.{◌≡◌, ℕ, zero, suc, List, [], ◌∷◌, take, true, sym, ap, ◌∙◌, inl, inr, Some}
+-- What stands at addresses after lawful steps, and after discards.
+use Rattle.std.proofs.Common.{◌≡◌, ℕ, ◌≤◌, zero, suc, List, [], ◌∷◌, length, take, true, sym, ◌∙◌, subst, inl, inr, Some, None}
+use Rattle.std.specs.Prelude.{Option}
 use Rattle.std.specs.List.{AllByRecursion}
+use Rattle.std.specs.Map.{update}
+use Rattle.std.specs.Str.{bytes_eq}
+use Rattle.std.proofs.Math.Logic.{∥∥₁_map, ∥∥₁_elim}
+use Rattle.std.proofs.Props.{props}
 use Rattle.sha2.specs.Sha512.{sha512}
-use Rattle.pn_storecore.specs.World.{Objects, World, empty, Stands}
-use Rattle.pn_storecore.specs.Steps.{Event, Journal, after, world_after}
-use Rattle.pn_storecore.specs.Lawful.{AreLawful, IsDiscard, AreLawfulOrDiscards}
+use Rattle.pn_storecore.specs.declared.step.Place.{Place}
+use Rattle.pn_storecore.specs.declared.step.Place.TheVariants.{Files, Listings}
+use Rattle.pn_storecore.specs.declared.step.Discard.TheVariants as what
+use Rattle.pn_storecore.specs.declared.step.StoreStep.{StoreStep}
+use Rattle.pn_storecore.specs.declared.step.StoreStep.TheVariants.{Claim, Create, Append, Shard, PublishFile, PublishListing, DropTemp, Read, Discard}
+use Rattle.pn_storecore.specs.World.{Objects, World, empty, objects, Stands}
+use Rattle.pn_storecore.specs.Stored.{IsStoredFile, file_limit}
+use Rattle.pn_storecore.specs.Steps.{Event, Journal, after, world_after, world_of}
+use Rattle.pn_storecore.specs.Lawful.{IsLawful, AreLawful, IsDiscard, AreLawfulOrDiscards}
 use Rattle.pn_storecore.specs.Sound.{IsSound}
 use Rattle.pn_storecore.specs.Laws.{SoundLaw, PublishedLaw, KeepsObjects}
+use Rattle.pn_storecore.proofs.Keys.{at_address}
 use Rattle.pn_storecore.proofs.Changes.{Changes, files_change, listings_change, file_shards, listing_shards, stays, sound_step}
 
-sound_empty : IsSound empty
+pub sound_empty : IsSound empty
 sound_empty = record { files = λ at bytes e. cc; listings = λ at bytes e. cc; owners = λ k a b p q. cc }
 
-sound_steps : (w : World) (steps : Journal) → IsSound w → AreLawful w steps → IsSound (world_after w steps)
+pub sound_steps : (w : World) (steps : Journal) → IsSound w → AreLawful w steps → IsSound (world_after w steps)
 sound_steps w [] sound h = sound
 sound_steps w (e ∷ es) sound h = sound_steps (after e.0 e.1 w) es (sound_step w e.0 e.1 sound h.0) h.1
 
@@ -26,11 +38,67 @@ undiscarded : (w : World) (steps : Journal) → AreLawfulOrDiscards w steps → 
 undiscarded w [] h none = tt
 undiscarded w (e ∷ es) h none = (elim h.0 [ inl lawful ↦ lawful | inr discard ↦ absurd (none.0 discard) ], undiscarded (after e.0 e.1 w) es h.1 none.1)
 
+-- Each object has its address as digest, and a file is within the limit.
+record AreAddressed (w : World) : Type 0 where
+  files : (at bytes : List ℕ) → w.files.bytes at ≡ Some bytes → IsStoredFile at bytes
+  listings : (at bytes : List ℕ) → w.listings.bytes at ≡ Some bytes → sha512 bytes ≡ at
+
+addressed_lawful : (w : World) (who : ℕ) (s : StoreStep) → AreAddressed w → IsLawful who s w → AreAddressed (after who s w)
+addressed_lawful w who s is h = record {
+  files = λ at bytes e. elim (files_change w who s h at) [
+    | inl same ↦ is.files at bytes (sym same ∙ e)
+    | inr now ↦ let one : now.0 ≡ bytes = cc (now.1, e) in subst (IsStoredFile at) one now.2
+  ];
+  listings = λ at bytes e. elim (listings_change w who s h at) [
+    | inl same ↦ is.listings at bytes (sym same ∙ e)
+    | inr now ↦ let one : now.0 ≡ bytes = cc (now.1, e) in subst (λ b. sha512 b ≡ at) one now.2.addressed
+  ];
+}
+
+-- what stands where one address was emptied stood before
+pub emptied_at : (f : List ℕ → Option (List ℕ)) (at q bytes : List ℕ) → update bytes_eq f at None q ≡ Some bytes → f q ≡ Some bytes
+emptied_at f at q bytes e = elim (at_address f at None q) [
+  | inl here ↦ let clash : None ≡ Some bytes = sym here.1 ∙ e in cc
+  | inr other ↦ sym other.1 ∙ e
+]
+
+addressed_discard : (w : World) (who : ℕ) (s : StoreStep) → AreAddressed w → IsDiscard s → AreAddressed (after who s w)
+addressed_discard w who (Claim k) is h = absurd h
+addressed_discard w who (Create k n) is h = absurd h
+addressed_discard w who (Append k n more) is h = absurd h
+addressed_discard w who (Shard place first) is h = absurd h
+addressed_discard w who (PublishFile k n at) is h = absurd h
+addressed_discard w who (PublishListing k n at) is h = absurd h
+addressed_discard w who (DropTemp k n) is h = absurd h
+addressed_discard w who Read is h = absurd h
+addressed_discard w who (Discard (what.Temp k)) is h = record { files = is.files; listings = is.listings }
+addressed_discard w who (Discard (what.File at)) is h = record { files = λ q bytes e. is.files q bytes (emptied_at w.files.bytes at q bytes e); listings = is.listings }
+addressed_discard w who (Discard (what.Listing at)) is h = record { files = is.files; listings = λ q bytes e. is.listings q bytes (emptied_at w.listings.bytes at q bytes e) }
+
+addressed_steps : (w : World) (steps : Journal) → AreAddressed w → AreLawfulOrDiscards w steps → AreAddressed (world_after w steps)
+addressed_steps w [] is h = is
+addressed_steps w (e ∷ es) is h = addressed_steps (after e.0 e.1 w) es (elim h.0 [ inl lawful ↦ addressed_lawful w e.0 e.1 is lawful | inr discard ↦ addressed_discard w e.0 e.1 is discard ]) h.1
+
+addressed_told : (journal : Journal) → AreLawfulOrDiscards empty journal → AreAddressed (world_of journal)
+addressed_told journal h = addressed_steps empty journal (record { files = λ at bytes e. cc; listings = λ at bytes e. cc }) h
+
+addressed_at : (w : World) (place : Place) (at bytes : List ℕ) → AreAddressed w → (objects w place).bytes at ≡ Some bytes → sha512 bytes ≡ at
+addressed_at w Files at bytes is e = (is.files at bytes e).addressed
+addressed_at w Listings at bytes is e = is.listings at bytes e
+
+same_digest : (a b : List ℕ) → IsProp (a ≡ b)
+same_digest a b = hlevel props
+
+at_most : (a b : ℕ) → IsProp (a ≤ b)
+at_most a b = hlevel props
+
 pub sound : SoundLaw
 sound = record {
   at_first = sound_empty;
   stays = λ w steps is h k. sound_steps w (take k steps) is (front w steps k h);
-  told = λ journal h none. sound_steps empty journal sound_empty (undiscarded empty journal h none);
+  told = λ journal h none. ∥∥₁_map h (λ l. sound_steps empty journal sound_empty (undiscarded empty journal l none));
+  addressed = λ journal h place at bytes e. ∥∥₁_elim h (same_digest (sha512 bytes) at) (λ l. addressed_at (world_of journal) place at bytes (addressed_told journal l) e);
+  short = λ journal h at bytes e. ∥∥₁_elim h (at_most (length bytes) file_limit) (λ l. ((addressed_told journal l).files at bytes e).short);
 }
 
 step_keeps : {May : List ℕ → List ℕ → Type 0} (old new : Objects) → ((at bytes : List ℕ) → old.bytes at ≡ Some bytes → sha512 bytes ≡ at) → ((at bytes : List ℕ) → May at bytes → sha512 bytes ≡ at)
@@ -40,22 +108,17 @@ step_keeps old new stood may shards change = record {
     | inl same ↦ (bytes, same ∙ e, stood at bytes e)
     | inr now ↦ (now.0, now.1, may at now.0 now.2)
   ];
-  same = λ at bytes e alone. elim (change at) [
-    | inl same ↦ same ∙ e
-    | inr now ↦ now.1 ∙ ap Some (alone now.0 (may at now.0 now.2 ∙ sym (stood at bytes e)))
-  ];
   shards = shards;
 }
 
 keeps_more : (a b c : Objects) → KeepsObjects a b → KeepsObjects b c → KeepsObjects a c
 keeps_more a b c first second = record {
   stands = λ at bytes e. let now = first.stands at bytes e in second.stands at now.0 now.1;
-  same = λ at bytes e alone. second.same at bytes (first.same at bytes e alone) alone;
   shards = λ s e. second.shards s (first.shards s e);
 }
 
 keeps_same : (o : Objects) → ((at bytes : List ℕ) → o.bytes at ≡ Some bytes → sha512 bytes ≡ at) → KeepsObjects o o
-keeps_same o stood = record { stands = λ at bytes e. (bytes, e, stood at bytes e); same = λ at bytes e alone. e; shards = λ s e. e }
+keeps_same o stood = record { stands = λ at bytes e. (bytes, e, stood at bytes e); shards = λ s e. e }
 
 keeps_files : (w : World) (steps : Journal) → IsSound w → AreLawful w steps → KeepsObjects w.files (world_after w steps).files
 keeps_files w [] is h = keeps_same w.files (λ at bytes e. (is.files at bytes e).addressed)

@@ -1,8 +1,8 @@
 -- Lemmas on the files that a listing names.
 use Rattle.std.proofs.Common.{◌≡◌, ◌≢◌, ℕ, ◌+◌, ◌<◌, List, Bool, Bor, true, false, nat_lt, length, refl, sym, ap, ◌∙◌, subst, Some, None, Ok, Err, arith, slice_index_or}
-use Rattle.std.specs.Prelude.{Option, Result, IfOk}
+use Rattle.std.specs.Prelude.{Option, Result, IfOk, OnOk}
 use Rattle.std.specs.Option.{is_some, option_copied}
-use Rattle.std.specs.Bool.{Decides}
+use Rattle.std.specs.Bool.{Decides, OnTrue}
 use Rattle.std.specs.List.{Contains}
 use Rattle.std.proofs.lemmas.Bool.{ltb-true, ltb-false}
 use Rattle.std.proofs.lemmas.List.{get_or_default}
@@ -66,3 +66,13 @@ listing_decides who k n at w bytes b owned shard stands d = (
 pub if_ok : {T E : Type 0} {P Q : T → Type 0} (r : Result T E) → ((v : T) → P v → Q v) → IfOk r P → IfOk r Q
 if_ok (Ok v) f h = f v h
 if_ok (Err e) f h = tt
+
+pub on_ok : {T E P Q : Type 0} (r : Result T E) → (P → Q) → OnOk r P → OnOk r Q
+on_ok (Ok v) f h = f h
+on_ok (Err e) f h = tt
+
+-- what is so after each Ok is so after Ok(true)
+pub on_true : {E : Type 0} (P : Type 0) (r : Result Bool E) → OnOk r P → IfOk r (λ done. OnTrue done P)
+on_true P (Ok true) h = h
+on_true P (Ok false) h = tt
+on_true P (Err e) h = tt

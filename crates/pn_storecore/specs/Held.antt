@@ -2,12 +2,14 @@
 use Rattle.std.specs.Prelude.{◌≡◌, ◌≢◌, ℕ, true, List, [], ◌++◌, Option, Some, None, nat_eq}
 use Rattle.std.specs.Option.{ForSome, option_map}
 use Rattle.std.specs.Map.{update}
+use Rattle.sha2.specs.Sha512.{sha512}
 use Rattle.pn_storecore.specs.declared.step.Place.{Place}
 use Rattle.pn_storecore.specs.declared.step.Discard.TheVariants as what
 use Rattle.pn_storecore.specs.declared.step.StoreStep.{StoreStep}
 use Rattle.pn_storecore.specs.declared.step.StoreStep.TheVariants.{Create, Append, PublishFile, PublishListing, DropTemp, Discard}
 use Rattle.pn_storecore.specs.World.{objects, Stands}
 use Rattle.pn_storecore.specs.Steps.{world_of}
+use Rattle.pn_storecore.specs.Sound.{IsSound}
 use Rattle.pn_storecore.specs.Seen.{Seen}
 
 -- the bytes of each file of a folder, by its number
@@ -36,6 +38,22 @@ HasObject s place at = ForSome s.journal (λ j. Stands (objects (world_of j) pla
 -- these bytes stand at an address
 abbrev pub HasBytes : Seen → Place → List ℕ → List ℕ → Type 0
 HasBytes s place at bytes = ForSome s.journal (λ j. (objects (world_of j) place).bytes at ≡ Some bytes)
+
+-- nothing stands at an address
+abbrev pub Lacks : Seen → Place → List ℕ → Type 0
+Lacks s place at = ForSome s.journal (λ j. (objects (world_of j) place).bytes at ≡ None)
+
+-- something stands at an address and has it as digest
+abbrev pub HasDigest : Seen → Place → List ℕ → Type 0
+HasDigest s place at = ForSome s.journal (λ j. (bytes : List ℕ) × ((objects (world_of j) place).bytes at ≡ Some bytes) × (sha512 bytes ≡ at))
+
+-- no folder of the number stands
+abbrev pub IsFree : Seen → ℕ → Type 0
+IsFree s k = ForSome s.journal (λ j. (world_of j).temps k ≡ None)
+
+-- the store is sound
+abbrev pub IsSoundStore : Seen → Type 0
+IsSoundStore s = ForSome s.journal (λ j. IsSound (world_of j))
 
 -- the step is on a file in the folder of the number
 abbrev pub IsIn : ℕ → StoreStep → Type 0

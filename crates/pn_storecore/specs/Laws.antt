@@ -1,33 +1,33 @@
 -- What lawful steps of any number of installers leave.
-use Rattle.std.specs.Prelude.{◌≡◌, ◌≢◌, ℕ, true, List, take, Some, None}
+use Rattle.std.specs.Prelude.{◌≡◌, ◌≢◌, ℕ, ◌≤◌, true, List, length, take, Some, None}
 use Rattle.std.specs.List.{AllByRecursion}
 use Rattle.sha2.specs.Sha512.{sha512}
 use Rattle.pn_digest.specs.Listing.{Names}
+use Rattle.pn_storecore.specs.declared.step.Place.{Place}
 use Rattle.pn_storecore.specs.declared.step.StoreStep.{StoreStep}
 use Rattle.pn_storecore.specs.declared.step.StoreStep.TheVariants.{Claim, DropTemp}
-use Rattle.pn_storecore.specs.World.{Objects, World, empty, Stands, owner_of, claimed_by}
+use Rattle.pn_storecore.specs.World.{Objects, World, empty, objects, Stands, owner_of, claimed_by}
+use Rattle.pn_storecore.specs.Stored.{file_limit}
 use Rattle.pn_storecore.specs.Steps.{Event, Journal, after, world_after, world_of}
 use Rattle.pn_storecore.specs.Lawful.{IsLawful, AreLawful, AreOthers, IsDiscard, AreLawfulOrDiscards}
 use Rattle.pn_storecore.specs.Sound.{IsSound}
 
 -- The empty store is sound, and a sound one stays so after each of the steps. So a told journal without
--- discards leaves a sound one.
+-- discards leaves a sound one, and in any told journal what stands at an address has it as digest.
 pub record SoundLaw : Type 0 where
   pub at_first : IsSound empty
   pub stays : (w : World) (steps : Journal) → IsSound w → AreLawful w steps → (k : ℕ) → IsSound (world_after w (take k steps))
-  pub told : (journal : Journal) → AreLawfulOrDiscards empty journal → AllByRecursion (λ (e : Event). IsDiscard e.1 → ⊥) journal → IsSound (world_of journal)
+  pub told : (journal : Journal) → ∥ AreLawfulOrDiscards empty journal ∥₁ → AllByRecursion (λ (e : Event). IsDiscard e.1 → ⊥) journal → ∥ IsSound (world_of journal) ∥₁
+  pub addressed : (journal : Journal) → ∥ AreLawfulOrDiscards empty journal ∥₁ → (place : Place) (at bytes : List ℕ) → (objects (world_of journal) place).bytes at ≡ Some bytes → sha512 bytes ≡ at
+  pub short : (journal : Journal) → ∥ AreLawfulOrDiscards empty journal ∥₁ → (at bytes : List ℕ) → (world_of journal).files.bytes at ≡ Some bytes → length bytes ≤ file_limit
 
--- no other bytes have this digest
-abbrev pub IsAlone : List ℕ → Type 0
-IsAlone bytes = (other : List ℕ) → sha512 other ≡ sha512 bytes → other ≡ bytes
-
--- What stood stands, with its address as digest: the same bytes, where no others have that digest.
+-- Where something stood, something stands that has the address as digest.
 pub record KeepsObjects (old new : Objects) : Type 0 where
   pub stands : (at bytes : List ℕ) → old.bytes at ≡ Some bytes → (now : List ℕ) × (new.bytes at ≡ Some now) × (sha512 now ≡ at)
-  pub same : (at bytes : List ℕ) → old.bytes at ≡ Some bytes → IsAlone bytes → new.bytes at ≡ Some bytes
   pub shards : (first : ℕ) → old.shards first ≡ true → new.shards first ≡ true
 
--- What is published stays published, and so does each file that a published listing names.
+-- Where something is published, something of that digest stays, and so at each file that a published
+-- listing names.
 pub record PublishedLaw : Type 0 where
   pub files : (w : World) (steps : Journal) → IsSound w → AreLawful w steps → KeepsObjects w.files (world_after w steps).files
   pub listings : (w : World) (steps : Journal) → IsSound w → AreLawful w steps → KeepsObjects w.listings (world_after w steps).listings

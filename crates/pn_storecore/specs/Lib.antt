@@ -12,7 +12,9 @@ pub mod Sets
 pub mod Told
 pub mod Came
 pub mod Held
+pub mod Grew
 pub mod CallLaws
+pub mod DiscardLaws
 pub mod Script
 pub mod Schedule
 pub mod Stores

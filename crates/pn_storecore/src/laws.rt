@@ -1,15 +1,17 @@
 // The laws of lawful steps.
 ghost use Rattle.pn_storecore.specs.Laws.{SoundLaw, PublishedLaw, OwnerLaw, PlaceLaw};
-ghost use Rattle.pn_storecore.specs.CallLaws.{AsksLaw, HoldsLaw, StandsLaw, LeavesLaw};
+ghost use Rattle.pn_storecore.specs.CallLaws.{AsksLaw, HoldsLaw, StandsLaw, DidLaw, LeavesLaw, GrewLaw, ClaimsLaw};
+ghost use Rattle.pn_storecore.specs.DiscardLaws.{DiscardLaw, AloneLaw};
 
 /// The empty store is sound. Lawful steps of any number of installers leave a sound world after each
-/// of them. An installer that stops makes no further step.
+/// of them. An installer that stops makes no further step. In every told journal, discards or not,
+/// what stands at an address has it as its digest.
 pub fn sound_law()
     ensures { SoundLaw }
 {}
 
-/// What is published stays published under lawful steps, with its address as its digest, and so does
-/// each file that a listing names.
+/// Where something is published, something stays under lawful steps that has the address as its digest,
+/// and so at each file that a listing names. Other bytes of that digest may take its place.
 pub fn published_law()
     ensures { PublishedLaw }
 {}
@@ -30,17 +32,47 @@ pub fn asks_law()
 {}
 
 /// A number that was claimed is held with no files, and each call on a file changes that file alone.
-/// After a refusal the file changed or not, by a front of an append's bytes.
+/// After a refusal the file changed or not, by a front of an append's bytes. A folder that was dropped
+/// is gone, and after a refusal it is gone or held as before.
 pub fn holds_law()
     ensures { HoldsLaw }
 {}
 
-/// What was made or published stands.
+/// What was made, published or found stands, and what stands has its address as its digest.
 pub fn stands_law()
     ensures { StandsLaw }
 {}
 
-/// Whatever a call answers, it leaves the other folders that the installer holds, and what stands.
+/// What each call did to the journal, whatever it answered: lawful steps of others came, and then its
+/// own step, a front of an append, or none.
+pub fn did_law()
+    ensures { DidLaw }
+{}
+
+/// Whatever a call answers, it leaves the folders that the installer holds and that its step isn't on.
 pub fn leaves_law()
     ensures { LeavesLaw }
+{}
+
+/// Whatever a call answers whose step was asked for, the journal grew by lawful steps. So something
+/// still stands where something stood, and a sound store is sound. No discard is such a call.
+pub fn grew_law()
+    ensures { GrewLaw }
+{}
+
+/// A number's folder was made by the claim that answered true, and stood at the step of one that
+/// answered false. No other call makes it.
+pub fn claims_law()
+    ensures { ClaimsLaw }
+{}
+
+/// A discard takes away what it is of and leaves what else stands. It leaves a sound store, if it is of
+/// a temporary folder, of a listing, or of a file that no listing names.
+pub fn discard_law()
+    ensures { DiscardLaw }
+{}
+
+/// What is known of calls beside which no other installer made a step.
+pub fn alone_law()
+    ensures { AloneLaw }
 {}

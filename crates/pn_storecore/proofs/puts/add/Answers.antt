@@ -16,11 +16,3 @@ returns-clause-folder g c bytes held =
     let more = c.args.more.now in
     subst (λ now. OnOk c.append.result (Holds two c.args.k now)) (c.holds_law.ensures.again no_files 0 (Some bytes) (Some (bytes ++ more)))
     (c.holds_law.ensures.appended one two c.args.k 0 more files c.append.result c.append.ensures.kept c.append.ensures.step held)
-
-pub returns-clause-left : goal.returns-clause-left
-returns-clause-left g c =
-    let one = g.D.StoreDisk.seen c.args.disk.now in
-    let two = g.D.StoreDisk.seen c.append.new.self in
-    let more = c.args.more.now in
-    c.leaves_law.ensures.append one two c.args.k 0 more c.append.result c.append.ensures.kept
-    (c.asks_law.ensures.append one c.args.k 0 more c.requires.0 (files_with no_files 0 (Some c.requires.0)) c.requires.1 refl) c.append.ensures.step

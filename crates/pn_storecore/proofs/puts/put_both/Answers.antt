@@ -1,13 +1,23 @@
-use Rattle.std.proofs.Common.{sym, subst}
-use Rattle.pn_storecore.specs.declared.step.Place.TheVariants.{Files}
-use Rattle.pn_storecore.specs.Held.{HasObject, no_files}
+use Rattle.pn_storecore.proofs.Standing.{on_true}
 use Rattle.pn_storecore.proofs.puts.put_both.Goals as goal
 
-pub write-requires-2 : goal.write-requires-2
-write-requires-2 g c = c.in_ok-found.ensures.folders c.args.k no_files tt c.in_ok-publish.ensures.folder
+pub returns-clause-file : goal.returns-clause-file
+returns-clause-file g c = on_true _ c.put_held.result c.put_held.ensures.file
 
-pub publish_listing-requires-clause-named : goal.publish_listing-requires-clause-named
-publish_listing-requires-clause-named g c file names =
+pub returns-clause-listing : goal.returns-clause-listing
+returns-clause-listing g c = on_true _ c.put_held.result c.put_held.ensures.listing
+
+pub returns-clause-free : goal.returns-clause-free
+returns-clause-free g c = on_true _ c.put_held.result c.put_held.ensures.free
+
+pub returns-clause-grew : goal.returns-clause-grew
+returns-clause-grew g c =
     let seen = g.D.StoreDisk.seen in
-    subst (HasObject (seen c.write-2.new.disk) Files) (sym (c.requires.named file names))
-    (c.in_ok-write-2.ensures.objects _ (c.in_ok-found.ensures.objects Files _ (c.stands_law.ensures.object (seen c.publish.new.disk) Files _ c.args.bytes.now c.in_ok-publish.ensures.stands)))
+    c.grew_law.ensures.both (seen c.args.disk.now) (seen c.claim.new.disk) (seen c.put_held.new.disk) c.claim.ensures.grew c.put_held.ensures.grew
+
+pub returns-clause-sound : goal.returns-clause-sound
+returns-clause-sound g c sound =
+    let seen = g.D.StoreDisk.seen in
+    let law = c.grew_law.ensures in
+    law.sound (seen c.claim.new.disk) (seen c.put_held.new.disk) c.put_held.ensures.grew
+    (law.sound (seen c.args.disk.now) (seen c.claim.new.disk) c.claim.ensures.grew sound)

@@ -1,0 +1,5 @@
+use Rattle.pn_storecore.proofs.Worlds.{alone}
+use Rattle.pn_storecore.proofs.laws.alone_law.Goals as goal
+
+pub returns : goal.returns
+returns c = alone

@@ -1,0 +1,5 @@
+use Rattle.pn_storecore.proofs.Claims.{claims}
+use Rattle.pn_storecore.proofs.laws.claims_law.Goals as goal
+
+pub returns : goal.returns
+returns c = claims

@@ -1,0 +1,5 @@
+use Rattle.pn_storecore.proofs.Discards.{discards}
+use Rattle.pn_storecore.proofs.laws.discard_law.Goals as goal
+
+pub returns : goal.returns
+returns c = discards

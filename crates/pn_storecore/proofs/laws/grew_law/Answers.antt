@@ -1,0 +1,5 @@
+use Rattle.pn_storecore.proofs.Growing.{grew}
+use Rattle.pn_storecore.proofs.laws.grew_law.Goals as goal
+
+pub returns : goal.returns
+returns c = grew
