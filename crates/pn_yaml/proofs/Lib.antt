@@ -37,3 +37,4 @@ pub mod Steps
 pub mod Texts
 pub mod Outcomes
 pub mod ReadFacts
+pub mod Stable

@@ -1,5 +1,6 @@
 // Laws of the YAML subset, of the definitions by which texts are read and data is printed.
 ghost use Rattle.pn_yaml.specs.Laws.{PrintLaw, ReadLaw};
+ghost use Rattle.pn_yaml.specs.StableLaw.{StableLaw};
 
 /// The text of data says the same data, each scalar plain where it was printed plain.
 pub fn print_law()
@@ -9,4 +10,9 @@ pub fn print_law()
 /// What is read has no key twice in a map, and is nested at most 64 deep.
 pub fn read_law()
     ensures { ReadLaw }
+{}
+
+/// Data as it is read back is printed as the same bytes.
+pub fn stable_law()
+    ensures { StableLaw }
 {}
