@@ -38,3 +38,9 @@ pub mod Texts
 pub mod Outcomes
 pub mod ReadFacts
 pub mod Stable
+pub mod FaultLines
+pub mod RowLines
+pub mod Fates
+pub mod BlockFates
+pub mod Fronts
+pub mod Refusals

@@ -22,3 +22,4 @@ pub mod FlowSteps
 pub mod Literals
 pub mod BlockSteps
 pub mod StableLaw
+pub mod PlaceLaw

@@ -1,5 +1,6 @@
 // Laws of the YAML subset, of the definitions by which texts are read and data is printed.
 ghost use Rattle.pn_yaml.specs.Laws.{PrintLaw, ReadLaw};
+ghost use Rattle.pn_yaml.specs.PlaceLaw.{PlaceLaw};
 ghost use Rattle.pn_yaml.specs.StableLaw.{StableLaw};
 
 /// The text of data says the same data, each scalar plain where it was printed plain.
@@ -15,4 +16,10 @@ pub fn read_law()
 /// Data as it is read back is printed as the same bytes.
 pub fn stable_law()
     ensures { StableLaw }
+{}
+
+/// A refusal names the first line at fault: the lines before it say something, and no text that begins with the whole
+/// lines up to it is read.
+pub fn place_law()
+    ensures { PlaceLaw }
 {}
