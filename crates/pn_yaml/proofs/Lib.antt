@@ -37,3 +37,10 @@ pub mod Steps
 pub mod Texts
 pub mod Outcomes
 pub mod ReadFacts
+pub mod Stable
+pub mod FaultLines
+pub mod RowLines
+pub mod Fates
+pub mod BlockFates
+pub mod Fronts
+pub mod Refusals

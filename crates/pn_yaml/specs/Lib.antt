@@ -21,3 +21,5 @@ pub mod KeySets
 pub mod FlowSteps
 pub mod Literals
 pub mod BlockSteps
+pub mod StableLaw
+pub mod PlaceLaw

@@ -28,7 +28,7 @@ mod value;
 mod word;
 
 pub use fault::{Why, YamlFault};
-pub use laws::{print_law, read_law};
+pub use laws::{place_law, print_law, read_law, stable_law};
 pub use node::{Node, Scalar};
 pub use print_block::print;
 pub use reading::read;
