@@ -8,7 +8,6 @@ mod block;
 mod escape;
 mod fault;
 mod flow;
-mod indent;
 mod keys;
 mod laws;
 mod level;

@@ -9,11 +9,11 @@ ghost use Rattle.pn_yaml.specs.View.{view};
 
 use crate::fault::{Why, YamlFault};
 use crate::flow::flow_at;
-use crate::indent::is_bare;
 use crate::line::{Front, Rows};
 use crate::node::{Node, Scalar};
 use crate::rows::ahead;
 use crate::scalar::{Place, word_at};
+use crate::spaces::is_bare;
 use pn_text::Text;
 use std::alloc::Global;
 
