@@ -4,10 +4,10 @@ use Rattle.std.specs.Prelude.{not}
 use Rattle.std.proofs.lemmas.Bool.{and_from, not_from_false}
 use Rattle.pn_yaml.specs.declared.fault.YamlFault.{YamlFault}
 use Rattle.pn_yaml.specs.declared.scalar.Place.TheVariants as place
-use Rattle.pn_yaml.specs.Bytes.{starts, tail_of, unindented}
+use Rattle.pn_yaml.specs.Bytes.{starts, tail_of, unindented, is_bare}
 use Rattle.pn_yaml.specs.Data.{Data, scalar, list, map, Items, no_items, item, Members, no_members, member, depth, items_depth, members_depth, are_apart, items_apart, members_apart, is_among}
 use Rattle.pn_yaml.specs.Scalars.{word_at, is_colon}
-use Rattle.pn_yaml.specs.Flow.{Reader, is_cut, behind_value, with_item, with_member, flow_items, flow_value, flow_member, flow_members, list_in, map_in, flow_at}
+use Rattle.pn_yaml.specs.Flow.{Reader, is_flow, behind_value, with_item, with_member, flow_items, flow_key, flow_value, flow_member, flow_members, list_in, map_in, flow_at}
 use Rattle.pn_yaml.proofs.Outcomes.{ok_bind, ok_if, any-ok}
 
 -- data with no key twice in a map, nested no deeper than the levels
@@ -70,7 +70,7 @@ member-good levels seen k d (Err f) e g h = tt
 flow-items-good : (levels : ℕ) (value : Reader) (line : ℕ) → GivesGood levels value → (steps : ℕ) (text : List ℕ) → IfOk (flow_items value line steps text) (λ r. GoodItems levels r.0)
 flow-items-good levels value line h zero text = tt
 flow-items-good levels value line h (suc steps) text =
-    ok_if (λ r. GoodItems levels r.0) (is_cut text) _ _ tt (λ _.
+    ok_if (λ r. GoodItems levels r.0) (is_bare text) _ _ tt (λ _.
     ok_if (λ r. GoodItems levels r.0) (starts 93 (unindented text)) _ _ (good-no_items levels) (λ _.
     ok_bind (λ v. IsGood levels v.0) (λ r. GoodItems levels r.0) (value (unindented text)) _ (h (unindented text)) (λ v g.
     item-good levels v.0 _ g (behind-good (GoodItems levels) line 93 no_items (flow_items value line steps) (unindented v.1)
@@ -82,22 +82,27 @@ pub record GoodMember (levels : ℕ) (seen : List (List ℕ)) (m : List ℕ × D
   pub good : IsGood levels m.1
 
 value-good : (levels : ℕ) (value : Reader) (line : ℕ) → GivesGood levels value → (text : List ℕ) → IfOk (flow_value value line text) (λ r. IsGood levels r.0)
-value-good levels value line h text = ok_if (λ r. IsGood levels r.0) (is_cut text) _ _ tt (λ _. h (unindented text))
+value-good levels value line h text = ok_if (λ r. IsGood levels r.0) (is_bare text) _ _ tt (λ _. h (unindented text))
+
+key-good : (line : ℕ) (seen : List (List ℕ)) (text : List ℕ) → IfOk (flow_key line seen text) (λ k. is_among k.0 seen ≡ false)
+key-good line seen text =
+    ok_if (λ k. is_among k.0 seen ≡ false) (is_flow text) _ _ tt (λ _.
+    ok_bind (λ k. Unit {0}) (λ k. is_among k.0 seen ≡ false) (word_at place.Flow line text) _ (any-ok (word_at place.Flow line text)) (λ k _.
+    ok_if (λ k. is_among k.0 seen ≡ false) (not (is_colon k.1)) _ _ tt (λ _.
+    ok_if (λ k. is_among k.0 seen ≡ false) (is_among k.0.text seen) _ _ tt (λ e. e))))
 
 flow-member-good : (levels : ℕ) (value : Reader) (line : ℕ) → GivesGood levels value → (seen : List (List ℕ)) (text : List ℕ)
     → IfOk (flow_member value line seen text) (λ r. GoodMember levels seen r.0)
 flow-member-good levels value line h seen text =
-    ok_bind (λ k. Unit {0}) (λ r. GoodMember levels seen r.0) (word_at place.Flow line text) _ (any-ok (word_at place.Flow line text)) (λ k _.
-    ok_if (λ r. GoodMember levels seen r.0) (not (is_colon k.1)) _ _ tt (λ _.
-    ok_if (λ r. GoodMember levels seen r.0) (is_among k.0.text seen) _ _ tt (λ e.
-    ok_bind (λ v. IsGood levels v.0) (λ r. GoodMember levels seen r.0) (flow_value value line (tail_of k.1)) _ (value-good levels value line h (tail_of k.1)) (λ v g.
-    record { new = e; good = g }))))
+    ok_bind (λ k. is_among k.0 seen ≡ false) (λ r. GoodMember levels seen r.0) (flow_key line seen text) _ (key-good line seen text) (λ k e.
+    ok_bind (λ v. IsGood levels v.0) (λ r. GoodMember levels seen r.0) (flow_value value line k.1) _ (value-good levels value line h k.1) (λ v g.
+    record { new = e; good = g }))
 
 flow-members-good : (levels : ℕ) (value : Reader) (line : ℕ) → GivesGood levels value → (steps : ℕ) (seen : List (List ℕ)) (text : List ℕ)
     → IfOk (flow_members value line steps seen text) (λ r. GoodMembers levels seen r.0)
 flow-members-good levels value line h zero seen text = tt
 flow-members-good levels value line h (suc steps) seen text =
-    ok_if (λ r. GoodMembers levels seen r.0) (is_cut text) _ _ tt (λ _.
+    ok_if (λ r. GoodMembers levels seen r.0) (is_bare text) _ _ tt (λ _.
     ok_if (λ r. GoodMembers levels seen r.0) (starts 125 (unindented text)) _ _ (good-no_members levels seen) (λ _.
     ok_bind (λ m. GoodMember levels seen m.0) (λ r. GoodMembers levels seen r.0) (flow_member value line seen (unindented text)) _
     (flow-member-good levels value line h seen (unindented text)) (λ m g.

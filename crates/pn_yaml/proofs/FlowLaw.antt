@@ -5,9 +5,9 @@ use Rattle.std.proofs.lemmas.List.{length-append}
 use Rattle.pn_yaml.specs.declared.fault.Why.TheVariants as why
 use Rattle.pn_yaml.specs.declared.fault.YamlFault.{YamlFault}
 use Rattle.pn_yaml.specs.declared.scalar.Place.TheVariants as place
-use Rattle.pn_yaml.specs.Bytes.{space, starts, is_empty, tail_of, unindented}
+use Rattle.pn_yaml.specs.Bytes.{space, starts, is_empty, tail_of, unindented, is_bare}
 use Rattle.pn_yaml.specs.Data.{Data, scalar, list, map, Items, no_items, item, Members, no_members, member, depth, items_depth, members_depth, is_among, are_apart, items_apart, members_apart}
-use Rattle.pn_yaml.specs.Flow.{Reader, behind_value, flow_at, flow_items, flow_member, flow_members, flow_value, is_cut, list_in, map_in, with_item, with_member}
+use Rattle.pn_yaml.specs.Flow.{Reader, behind_value, flow_at, flow_items, flow_key, flow_member, flow_members, flow_value, is_flow, list_in, map_in, with_item, with_member}
 use Rattle.pn_yaml.specs.Outcome.{◌>>=◌, wrong}
 use Rattle.pn_yaml.specs.Scalars.{Word, is_colon, word_at}
 use Rattle.pn_yaml.specs.Words.{is_one_of, is_plain, word_text}
@@ -38,7 +38,7 @@ opens_more y tail b = record { first = b.first; later = b.later ++ tail; whole =
 
 -- an item, a key or a value comes behind the spaces of a text
 record Leads (text y : List ℕ) : Type 0 where
-  cut : is_cut text ≡ false
+  cut : is_bare text ≡ false
   front : unindented text ≡ y
   open_list : starts 93 y ≡ false
   open_map : starts 125 y ≡ false
@@ -104,6 +104,24 @@ items_next value d e es line steps text behind tail reads later l =
     ap (λ z. if z then wrong line why.Flow else body (unindented text)) l.cut ∙ ap body l.front ∙ ap (λ z. if z then Ok (no_items, tail_of y) else next (value y)) l.open_list
     ∙ ap next reads ∙ ap (with_item e) later
 
+-- a printed key begins no flow
+key_begins : (k rest : List ℕ) → is_flow (key_text true k ++ rest) ≡ false
+key_begins k rest =
+    let b = word_begins true k false in
+    let far : (c : ℕ) → is_one_of (codes "-?:,[]{}#&*!|>%@` ") c ≡ true → starts c (key_text true k ++ rest) ≡ false
+    = λ c i. ap (λ z. starts c ((z ++ 58 ∷ []) ++ rest)) b.whole ∙ apart (codes "-?:,[]{}#&*!|>%@` ") b.first c (not_false _ b.good) i in
+    ap (λ z. z || starts 123 (key_text true k ++ rest)) (far 91 refl) ∙ far 123 refl
+
+key_read : (k : List ℕ) (line : ℕ) (seen : List (List ℕ)) (y : List ℕ) → is_among k seen ≡ false → flow_key line seen (key_text true k ++ space ∷ y) ≡ Ok (k, space ∷ y)
+key_read k line seen y new =
+    let got : Result (Word × List ℕ) YamlFault → Result (List ℕ × List ℕ) YamlFault
+    = λ r. r >>= λ w. if not (is_colon w.1) then wrong line why.Flow else if is_among w.0.text seen then wrong line why.Twice else Ok (w.0.text, tail_of w.1) in
+    let key : Result (List ℕ × List ℕ) YamlFault = Ok (k, space ∷ y) in
+    ap (λ z. if z then wrong line why.Flow else got (word_at place.Flow line (key_text true k ++ space ∷ y))) (key_begins k (space ∷ y))
+    ∙ ap (λ z. got (word_at place.Flow line z)) (append_assoc (word_text true k false) (58 ∷ []) (space ∷ y))
+    ∙ ap got (word_law place.Flow line k false (58 ∷ space ∷ y) refl)
+    ∙ ap (λ z. if z then wrong line why.Twice else key) new
+
 -- a key and its value
 member_read : (value : Reader) (k : List ℕ) (d e : Data) (line : ℕ) (seen : List (List ℕ)) (behind : List ℕ) → value (flow_text d ++ behind) ≡ Ok (e, behind) → is_among k seen ≡ false
     → flow_member value line seen (key_text true k ++ space ∷ (flow_text d ++ behind)) ≡ Ok ((k, e), behind)
@@ -111,12 +129,8 @@ member_read value k d e line seen behind reads new =
     let y = flow_text d ++ behind in
     let l : Leads (space ∷ y) y = leads_behind y y refl (opens_more (flow_text d) behind (flow_opens d)) in
     let last : Result (Data × List ℕ) YamlFault → Result ((List ℕ × Data) × List ℕ) YamlFault = λ r. r >>= λ v. Ok ((k, v.0), v.1) in
-    let after : Result (Word × List ℕ) YamlFault → Result ((List ℕ × Data) × List ℕ) YamlFault
-    = λ r. r >>= λ w. if not (is_colon w.1) then wrong line why.Flow else if is_among w.0.text seen then wrong line why.Twice
-    else flow_value value line (tail_of w.1) >>= λ v. Ok ((w.0.text, v.0), v.1) in
-    ap (λ z. after (word_at place.Flow line z)) (append_assoc (word_text true k false) (58 ∷ []) (space ∷ y))
-    ∙ ap after (word_law place.Flow line k false (58 ∷ space ∷ y) refl)
-    ∙ ap (λ z. if z then wrong line why.Twice else last (flow_value value line (space ∷ y))) new
+    let keyed : Result (List ℕ × List ℕ) YamlFault → Result ((List ℕ × Data) × List ℕ) YamlFault = λ r. r >>= λ j. flow_value value line j.1 >>= λ v. Ok ((j.0, v.0), v.1) in
+    ap keyed (key_read k line seen y new)
     ∙ ap (λ z. last (if z then wrong line why.Flow else value (unindented (space ∷ y)))) l.cut
     ∙ ap (λ z. last (value z)) l.front
     ∙ ap last reads

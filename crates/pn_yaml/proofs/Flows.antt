@@ -9,8 +9,8 @@ use Rattle.pn_yaml.specs.declared.scalar.Place.TheVariants as place
 use Rattle.pn_yaml.specs.Bytes.{is_bare, starts, tail_of, unindented}
 use Rattle.pn_yaml.specs.Data.{Data, scalar, list, map, Items, no_items, Members, no_members, is_among}
 use Rattle.pn_yaml.specs.Outcome.{◌>>=◌, Fails, wrong}
-use Rattle.pn_yaml.specs.Flow.{Reader, behind_value, flow_at, flow_items, flow_member, flow_members, flow_value, list_in, map_in, with_item, with_member}
-use Rattle.pn_yaml.specs.FlowSteps.{before_step, behind_step, flow_key}
+use Rattle.pn_yaml.specs.Flow.{Reader, behind_value, flow_at, flow_items, flow_key, flow_member, flow_members, flow_value, is_flow, list_in, map_in, with_item, with_member}
+use Rattle.pn_yaml.specs.FlowSteps.{before_step, behind_step}
 use Rattle.pn_yaml.specs.KeySets.{seen_of}
 use Rattle.pn_yaml.specs.Scalars.{Word, is_colon, word_at}
 use Rattle.pn_yaml.specs.View.{items_of, members_of, view}
@@ -174,22 +174,6 @@ members_unbegun value line text ns rest e s f = fails_as e (before_step line 125
 abbrev keyed : Reader → ℕ → List ℕ × List ℕ → Reads Entry
 keyed value line k = flow_value value line k.1 >>= λ v. Ok ((k.0, v.0), v.1)
 
-key_word : (value : Reader) (line : ℕ) (seen : List (List ℕ)) (w : Reads Word)
-    → (w >>= λ k. if not (is_colon k.1) then wrong line why.Flow else if is_among k.0.text seen then wrong line why.Twice else flow_value value line (tail_of k.1) >>= λ v. Ok ((k.0.text, v.0), v.1))
-    ≡ (w >>= λ k. if not (is_colon k.1) then wrong line why.Flow else if is_among k.0.text seen then wrong line why.Twice else Ok (k.0.text, tail_of k.1)) >>= keyed value line
-key_word value line seen (Err e) = refl
-key_word value line seen (Ok k) =
-    let got : Reads (List ℕ) = Ok (k.0.text, tail_of k.1) in
-    let made : Reads Entry = flow_value value line (tail_of k.1) >>= λ v. Ok ((k.0.text, v.0), v.1) in
-    elim (is_colon k.1) as (λ v. (if not v then wrong line why.Flow else if is_among k.0.text seen then wrong line why.Twice else made)
-    ≡ (if not v then wrong line why.Flow else if is_among k.0.text seen then wrong line why.Twice else got) >>= keyed value line) [
-      | true ↦ elim (is_among k.0.text seen) as (λ v. (if v then wrong line why.Twice else made) ≡ (if v then wrong line why.Twice else got) >>= keyed value line) [ true ↦ refl | false ↦ refl ]
-      | false ↦ refl
-    ]
-
-member_is : (value : Reader) (line : ℕ) (seen : List (List ℕ)) (text : List ℕ) → flow_member value line seen text ≡ flow_key line seen text >>= keyed value line
-member_is value line seen text = key_word value line seen (word_at place.Flow line text)
-
 -- a member that isn't read
 members_unread : (value : Reader) (line : ℕ) (text : List ℕ) (ns : List (List ℕ × Node)) (rest front : List ℕ) (e : YamlFault) (s : MembersSoFar value line text ns rest)
     → before_step line 125 rest ≡ Ok (false, front) → flow_member value line (seen_of ns) front ≡ Err e → whole_map value line text ≡ Err e
@@ -199,12 +183,12 @@ members_unread value line text ns rest front e s b f = members_fail value line t
 pub members_unkeyed : (value : Reader) (line : ℕ) (text : List ℕ) (ns : List (List ℕ × Node)) (rest front : List ℕ) (e : YamlFault) → MembersSoFar value line text ns rest
     → before_step line 125 rest ≡ Ok (false, front) → Fails e (flow_key line (seen_of ns) front) → Fails e (whole_map value line text)
 members_unkeyed value line text ns rest front e s b f = fails_as e (flow_key line (seen_of ns) front) (whole_map value line text)
-    (λ g. members_unread value line text ns rest front e s b (member_is value line (seen_of ns) front ∙ ap (λ (r : Reads (List ℕ)). r >>= keyed value line) g)) f
+    (λ g. members_unread value line text ns rest front e s b (ap (λ (r : Reads (List ℕ)). r >>= keyed value line) g)) f
 
 pub members_unvalued : (value : Reader) (line : ℕ) (text : List ℕ) (ns : List (List ℕ × Node)) (rest front : List ℕ) (key after : List ℕ) (e : YamlFault) → MembersSoFar value line text ns rest
     → before_step line 125 rest ≡ Ok (false, front) → flow_key line (seen_of ns) front ≡ Ok (key, after) → Fails e (flow_value value line after) → Fails e (whole_map value line text)
 members_unvalued value line text ns rest front key after e s b f h = fails_as e (flow_value value line after) (whole_map value line text)
-    (λ g. members_unread value line text ns rest front e s b (member_is value line (seen_of ns) front ∙ ap (λ (r : Reads (List ℕ)). r >>= keyed value line) f
+    (λ g. members_unread value line text ns rest front e s b (ap (λ (r : Reads (List ℕ)). r >>= keyed value line) f
     ∙ ap (λ (r : Reads Data). r >>= λ v. Ok ((key, v.0), v.1)) g)) h
 
 -- a member that is read
@@ -214,7 +198,7 @@ pub record IsMember (value : Reader) (line : ℕ) (seen : List (List ℕ)) (fron
 pub member_read : (value : Reader) (line : ℕ) (seen : List (List ℕ)) (front key after : List ℕ) (d : Data) (behind : List ℕ)
     → flow_key line seen front ≡ Ok (key, after) → flow_value value line after ≡ Ok (d, behind) → IsMember value line seen front (key, d) behind
 member_read value line seen front key after d behind f g = record {
-  is = member_is value line seen front ∙ ap (λ (r : Reads (List ℕ)). r >>= keyed value line) f ∙ ap (λ (r : Reads Data). r >>= λ v. Ok ((key, v.0), v.1)) g;
+  is = ap (λ (r : Reads (List ℕ)). r >>= keyed value line) f ∙ ap (λ (r : Reads Data). r >>= λ v. Ok ((key, v.0), v.1)) g;
 }
 
 members_after : (value : Reader) (line : ℕ) (text : List ℕ) (ns : List (List ℕ × Node)) (rest front : List ℕ) (m : Entry) (after : List ℕ) (r : Reads Bool) (s : MembersSoFar value line text ns rest)
@@ -293,8 +277,9 @@ value_within value h line text = elim (is_bare text) as (λ v. Within (length te
   | false ↦ within_more (length (unindented text)) (length text) (value (unindented text)) (unindented_within text) (h (unindented text))
 ]
 
-key_within : (line : ℕ) (seen : List (List ℕ)) (text : List ℕ) → Within (length text) (flow_key line seen text)
-key_within line seen text =
+word_key_within : (line : ℕ) (seen : List (List ℕ)) (text : List ℕ)
+    → Within (length text) (word_at place.Flow line text >>= λ k. if not (is_colon k.1) then wrong line why.Flow else if is_among k.0.text seen then wrong line why.Twice else Ok (k.0.text, tail_of k.1))
+word_key_within line seen text =
     within_then (length text) (length text) (word_at place.Flow line text) (λ k. if not (is_colon k.1) then wrong line why.Flow else if is_among k.0.text seen then wrong line why.Twice else Ok (k.0.text, tail_of k.1)) (word_within place.Flow line text)
     (λ k l. let got : Reads (List ℕ) = Ok (k.0.text, tail_of k.1) in
     elim (is_colon k.1) as (λ v. Within (length text) (if not v then wrong line why.Flow else if is_among k.0.text seen then wrong line why.Twice else got)) [
@@ -302,10 +287,15 @@ key_within line seen text =
       | false ↦ tt
     ])
 
+key_within : (line : ℕ) (seen : List (List ℕ)) (text : List ℕ) → Within (length text) (flow_key line seen text)
+key_within line seen text =
+    let word : Reads (List ℕ) = word_at place.Flow line text >>= λ k. if not (is_colon k.1) then wrong line why.Flow else if is_among k.0.text seen then wrong line why.Twice else Ok (k.0.text, tail_of k.1) in
+    elim (is_flow text) as (λ v. Within (length text) (if v then wrong line why.Flow else word)) [ true ↦ tt | false ↦ word_key_within line seen text ]
+
 member_within : (value : Reader) → Shrinks value → (line : ℕ) (seen : List (List ℕ)) (text : List ℕ) → Within (length text) (flow_member value line seen text)
-member_within value h line seen text = subst (λ (r : Reads Entry). Within (length text) r) (sym (member_is value line seen text))
-    (within_then (length text) (length text) (flow_key line seen text) (keyed value line) (key_within line seen text)
-    (λ k l. within_then (length k.1) (length text) (flow_value value line k.1) (λ v. Ok ((k.0, v.0), v.1)) (value_within value h line k.1) (λ v m. omega arith)))
+member_within value h line seen text =
+    within_then (length text) (length text) (flow_key line seen text) (keyed value line) (key_within line seen text)
+    (λ k l. within_then (length k.1) (length text) (flow_value value line k.1) (λ v. Ok ((k.0, v.0), v.1)) (value_within value h line k.1) (λ v m. omega arith))
 
 members_within : (value : Reader) → Shrinks value → (line steps : ℕ) (seen : List (List ℕ)) (text : List ℕ) → Within (length text) (flow_members value line steps seen text)
 members_within value h line zero seen text = tt

@@ -53,14 +53,3 @@ spaces_boundary t (suc j) u h =
     let is : get_or t j 0 ≡ 32 = space_at t j (omega arith) in
     let e : j + 1 ≡ suc j = omega arith in
     rw e at (IsCharBoundary-after_ascii t j u lt (omega arith))
-
-pub first_boundary : (b : ℕ) (t : List ℕ) → IsUtf8 t → IsTrue (starts b t) → b < 128 → IsCharBoundary t 1
-first_boundary b [] u h lt = absurd cc
-first_boundary b (c ∷ t) u h lt =
-    let is : c ≡ b = eqb-true c b h in
-    let small : c < 128 = omega arith in
-    IsCharBoundary-after_ascii (c ∷ t) 0 u (omega arith) small
-
-pub tail_of-drop : (t : List ℕ) → drop 1 t ≡ tail_of t
-tail_of-drop [] = refl
-tail_of-drop (b ∷ t) = refl

@@ -12,6 +12,7 @@ use Rattle.pn_yaml.specs.Outcome.{◌>>=◌, wrong}
 use Rattle.pn_yaml.specs.Rows.{Row, rows_of, row_indentation, content, ahead, first_ahead}
 use Rattle.pn_yaml.specs.Scalars.{word_at, plain_front, is_colon, on_some}
 use Rattle.pn_yaml.specs.Flow.{flow_at, is_flow}
+pub use Rattle.pn_yaml.specs.Flow.{with_item, with_member, list_in, map_in}
 
 -- a `-` and what is behind it
 abbrev pub is_item : List ℕ → Bool
@@ -25,14 +26,6 @@ Reader = Bool → List ℕ → Row → List Row → Result (Data × List Row) Ya
 -- the key at the front of a text, and what is behind its colon
 abbrev pub key_at : ℕ → List ℕ → Result (List ℕ × List ℕ) YamlFault
 key_at line text = word_at place.Key line text >>= λ k. if is_colon k.1 then Ok (k.0.text, tail_of k.1) else wrong line why.Key
-
-abbrev pub with_item : Data → Result (Items × List Row) YamlFault → Result (Items × List Row) YamlFault
-with_item d (Ok r) = Ok (item d r.0, r.1)
-with_item d (Err e) = Err e
-
-abbrev pub with_member : List ℕ → Data → Result (Members × List Row) YamlFault → Result (Members × List Row) YamlFault
-with_member k d (Ok r) = Ok (member k d r.0, r.1)
-with_member k d (Err e) = Err e
 
 -- the items of a block list of this indentation, in at most so many steps
 abbrev pub block_items : Reader → ℕ → ℕ → List Row → Result (Items × List Row) YamlFault
@@ -60,14 +53,6 @@ block_members value indent (suc steps) seen (row ∷ rows) =
     else if nat_lt indent (row_indentation row) then wrong row.line why.Indent
     else block_member value seen row rows >>= λ m.
     with_member m.0.0 m.0.1 (block_members value indent steps (m.0.0 ∷ seen) m.1)
-
-abbrev pub list_in : Result (Items × List Row) YamlFault → Result (Data × List Row) YamlFault
-list_in (Ok r) = Ok (list r.0, r.1)
-list_in (Err e) = Err e
-
-abbrev pub map_in : Result (Members × List Row) YamlFault → Result (Data × List Row) YamlFault
-map_in (Ok r) = Ok (map r.0, r.1)
-map_in (Err e) = Err e
 
 -- the block that begins with this line
 abbrev pub block_at : Reader → Row → List Row → Result (Data × List Row) YamlFault

@@ -27,13 +27,6 @@ behind_step line close text = if starts 44 (unindented text) then Ok (false, tai
     else if starts close (unindented text) then Ok (true, tail_of (unindented text))
     else wrong line why.Flow
 
--- a key and what is behind its colon, where these keys stand before it
-abbrev pub flow_key : ℕ → List (List ℕ) → List ℕ → Result (List ℕ × List ℕ) YamlFault
-flow_key line seen text = word_at place.Flow line text >>= λ k.
-    if not (is_colon k.1) then wrong line why.Flow
-    else if is_among k.0.text seen then wrong line why.Twice
-    else Ok (k.0.text, tail_of k.1)
-
 -- a scalar in a flow
 abbrev pub flow_scalar : ℕ → List ℕ → Result (Data × List ℕ) YamlFault
 flow_scalar line text = word_at place.Flow line text >>= λ w. Ok (scalar w.0.text w.0.plain, w.1)

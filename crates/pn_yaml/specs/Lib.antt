@@ -1,6 +1,7 @@
 pub mod Data
 pub mod View
 pub mod Outcome
+pub mod Texts
 pub mod Bytes
 pub mod Scalars
 pub mod Flow

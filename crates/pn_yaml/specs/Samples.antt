@@ -107,6 +107,18 @@ no_value_in_flow = refl
 pub no_colon_in_flow : text_says (codes "a: {b}") ≡ Err (fault.Line 1 why.Flow)
 no_colon_in_flow = refl
 
+pub flow_as_key : text_says (codes "a: {{b: 1}") ≡ Err (fault.Line 1 why.Flow)
+flow_as_key = refl
+
+pub list_as_key : text_says (codes "x: 1\na: {[b]: 1}") ≡ Err (fault.Line 2 why.Flow)
+list_as_key = refl
+
+pub bracket_in_flow_key : text_says (codes "a: {b[c: 1}") ≡ Ok (map (member (codes "a") (map (member (codes "b[c") (scalar (codes "1") true) no_members)) no_members))
+bracket_in_flow_key = refl
+
+pub bracket_quoted_in_flow : text_says (codes "a: {'[b': 1}") ≡ Ok (map (member (codes "a") (map (member (codes "[b") (scalar (codes "1") true) no_members)) no_members))
+bracket_quoted_in_flow = refl
+
 pub scalar_blocks : text_says (codes "a: |\nb: |-\nc: >\n  x\n  y\n") ≡ Ok (map (member (codes "a") (scalar (codes "\n") false) (member (codes "b") (scalar (codes "") false) (member (codes "c") (scalar (codes "x y\n") false) no_members))))
 scalar_blocks = refl
 

@@ -9,6 +9,7 @@ ghost use Rattle.pn_yaml.specs.KeySets.{AreKeys, seen_of};
 ghost use Rattle.pn_yaml.specs.Outcome.{Gives};
 
 use crate::fault::{Why, YamlFault};
+use crate::flow::is_flow;
 use crate::keys::Keys;
 use crate::line::{Front, Line};
 use crate::literal::{scalar_block, style_of};
@@ -18,7 +19,7 @@ use crate::rows::ahead;
 use crate::scalar::{Place, word_at};
 use crate::spaces::content;
 use crate::split::{behind, starts};
-use crate::value::{empty_scalar, flow_on, is_flow, scalar_on};
+use crate::value::{empty_scalar, flow_on, scalar_on};
 use pn_text::Text;
 use sqlite_items::Items;
 use std::alloc::Global;

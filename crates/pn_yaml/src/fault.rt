@@ -1,6 +1,7 @@
 // The refusals.
 ghost use Rattle.std.specs.Prelude.{◌≡◌};
 ghost use Rattle.pn_yaml.specs.declared.fault.YamlFault.TheVariants.{Memory as no_memory};
+ghost use Rattle.pn_yaml.specs.Texts.{why_text};
 
 use pn_text::Memory;
 use std::alloc::{AllocError, AllocFailed};
@@ -24,6 +25,24 @@ pub enum Why {
     Twice,
     /// A form of YAML that isn't read: an anchor, an alias, a tag, a directive, an explicit key, a second document.
     LeftOut,
+}
+
+impl Why {
+    /// What is told of the line.
+    pub fn text(self) -> &'static str
+        ensures { result.now ≡ why_text self }
+    {
+        match self {
+            Why::Tab => "tab",
+            Why::Indent => "indentation",
+            Why::Key => "key",
+            Why::Quote => "quote",
+            Why::Escape => "escape",
+            Why::Flow => "flow",
+            Why::Twice => "key twice",
+            Why::LeftOut => "left out",
+        }
+    }
 }
 
 /// Why bytes are no text of the subset.

@@ -1,8 +1,8 @@
 // Flow values: lists in brackets and maps in braces, on one line.
 ghost use Rattle.std.specs.Prelude.{◌≡◌, ◌<◌, ◌∷◌, suc, length, [], IfOk};
 ghost use Rattle.pn_yaml.specs.Outcome.{Gives};
-ghost use Rattle.pn_yaml.specs.Flow.{flow_at, flow_items, flow_members, flow_value, list_in, map_in};
-ghost use Rattle.pn_yaml.specs.FlowSteps.{step_of, behind_step, before_step, flow_key, flow_scalar};
+ghost use Rattle.pn_yaml.specs.Flow.{flow_at, flow_items, flow_key, flow_members, flow_value, is_flow, list_in, map_in};
+ghost use Rattle.pn_yaml.specs.FlowSteps.{step_of, behind_step, before_step, flow_scalar};
 ghost use Rattle.pn_yaml.specs.KeySets.{AreKeys, seen_of};
 ghost use Rattle.pn_yaml.specs.View.{view};
 
@@ -12,7 +12,7 @@ use crate::node::Node;
 use crate::plain::behind_colon;
 use crate::scalar::{Place, word_at};
 use crate::spaces::{content, unindented};
-use crate::split::behind;
+use crate::split::{behind, starts};
 use pn_text::Text;
 use sqlite_items::Items;
 use std::alloc::Global;
@@ -54,7 +54,14 @@ fn behind_value(line: u32, close: u8, text: &str) -> Result<Step<'_>, YamlFault>
     }
 }
 
-// A key that the members don't have, and what is behind its colon.
+/// Whether a text begins a flow.
+pub(crate) fn is_flow(text: &str) -> bool
+    ensures { result ≡ is_flow text.now }
+{
+    starts(b'[', text) || starts(b'{', text)
+}
+
+// A key that the members don't have, and what is behind its colon. No flow is a key.
 fn key_at<'a>(
     alloc: Global,
     line: u32,
@@ -66,6 +73,9 @@ fn key_at<'a>(
     ensures gives { Gives (λ r. (r.0, r.1.now)) result (flow_key line (seen_of members.now) text.now) }
     ensures kept { IfOk result (λ r. AreKeys keys.new (r.0 ∷ seen_of members.now)) }
 {
+    if is_flow(text) {
+        return Err(YamlFault::Line(line, Why::Flow));
+    }
     let (word, rest) = word_at(alloc, Place::Flow, line, text)?;
     let Some(rest) = behind_colon(rest) else {
         return Err(YamlFault::Line(line, Why::Flow));

@@ -1,4 +1,4 @@
-//! A subset of YAML 1.2, read and printed: block maps and lists, flow values on one line, quoted and plain scalars.
+//! A form after YAML 1.2, read and printed: block maps and lists, flow values on one line, quoted and plain scalars.
 //!
 //! What bytes say is a definition, `says`: data, or the first line at fault. `read` answers exactly that. `print` writes
 //! one text of a map, and what it writes is read as the same map, each scalar plain where it was printed plain.
@@ -8,7 +8,6 @@ mod block;
 mod escape;
 mod fault;
 mod flow;
-mod indent;
 mod keys;
 mod laws;
 mod level;

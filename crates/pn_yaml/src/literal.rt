@@ -9,10 +9,10 @@ ghost use Rattle.pn_yaml.specs.Outcome.{Gives};
 ghost use Rattle.pn_yaml.specs.Scalars.{plain_front};
 
 use crate::fault::{Why, YamlFault};
-use crate::indent::{behind_spaces, is_bare};
 use crate::line::{Front, Line, Rows};
 use crate::node::{Node, Scalar};
 use crate::rows::{ahead_from, next_row};
+use crate::spaces::{behind_spaces, is_bare};
 use crate::split::{behind, starts};
 use pn_text::Text;
 use std::alloc::Global;

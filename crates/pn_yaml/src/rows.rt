@@ -6,8 +6,8 @@ ghost use Rattle.pn_yaml.specs.Outcome.{Gives};
 ghost use Rattle.pn_yaml.specs.Rows.{ahead, first_ahead, is_marker, is_passed_over, is_three, lines_of, met, passed, rows_of, unmarked, unreturned};
 
 use crate::fault::{Why, YamlFault};
-use crate::indent::{behind_spaces, indentation, is_bare};
 use crate::line::{Front, Line, Rows};
+use crate::spaces::{behind_spaces, indentation, is_bare};
 use crate::split::starts;
 
 /// The lines of a text.

@@ -1,18 +1,34 @@
 // Spaces at the front and at the end of a text.
-ghost use Rattle.std.specs.Prelude.{◌≡◌, ◌++◌, ◌∷◌, ℕ, List, MatchOption, true, false};
-ghost use Rattle.pn_yaml.specs.Bytes.{unindented, trimmed, is_bare};
+ghost use Rattle.std.specs.Prelude.{◌≡◌, ◌≤◌, ◌++◌, ◌∷◌, ℕ, List, MatchOption, drop, true, false};
+ghost use Rattle.pn_yaml.specs.Bytes.{indentation, unindented, trimmed, is_bare};
 
-use crate::split::{behind, starts};
+use crate::split::starts;
+
+/// How many spaces a text begins with.
+pub(crate) fn indentation(text: &str) -> usize
+    ensures { result ≡ indentation text.now }
+{
+    for (i, b) in text.as_bytes().iter().enumerate() {
+        if *b != b' ' {
+            return i;
+        }
+    }
+    text.len()
+}
+
+/// A text without some of the spaces that it begins with.
+pub(crate) fn behind_spaces(text: &str, count: usize) -> &str
+    requires { count ≤ indentation text.now }
+    ensures { result.now ≡ drop count text.now }
+{
+    text.split_at(count).1
+}
 
 /// The text without the spaces that it begins with.
 pub(crate) fn unindented(text: &str) -> &str
     ensures { result.now ≡ unindented text.now }
 {
-    let mut rest = text;
-    'spaces: while let Some(after) = behind(b' ', rest) {
-        rest = after;
-    }
-    rest
+    behind_spaces(text, indentation(text))
 }
 
 /// The text without the spaces that it begins with; none where only a comment is behind them, or nothing.
@@ -24,6 +40,13 @@ pub(crate) fn content(text: &str) -> Option<&str>
         return None;
     }
     Some(rest)
+}
+
+/// Whether a text has nothing but spaces and a comment behind them.
+pub(crate) fn is_bare(text: &str) -> bool
+    ensures { result ≡ is_bare text.now }
+{
+    content(text).is_none()
 }
 
 /// The text without the spaces at its end.

@@ -4,18 +4,16 @@ ghost use Rattle.pn_yaml.specs.BlockSteps.{flow_on, line_end};
 ghost use Rattle.pn_yaml.specs.Blocks.{scalar_on};
 ghost use Rattle.pn_yaml.specs.Cursor.{node_ahead, row_of, rows_ahead, rows_left};
 ghost use Rattle.pn_yaml.specs.Data.{scalar};
-ghost use Rattle.pn_yaml.specs.Flow.{is_flow};
 ghost use Rattle.pn_yaml.specs.Outcome.{Gives};
 ghost use Rattle.pn_yaml.specs.View.{view};
 
 use crate::fault::{Why, YamlFault};
 use crate::flow::flow_at;
-use crate::indent::is_bare;
 use crate::line::{Front, Rows};
 use crate::node::{Node, Scalar};
 use crate::rows::ahead;
 use crate::scalar::{Place, word_at};
-use crate::split::starts;
+use crate::spaces::is_bare;
 use pn_text::Text;
 use std::alloc::Global;
 
@@ -33,13 +31,6 @@ fn line_end<'a>(
     } else {
         Err(YamlFault::Line(number, why))
     }
-}
-
-/// Whether a text begins a flow.
-pub fn is_flow(text: &str) -> bool
-    ensures { result ≡ is_flow text.now }
-{
-    starts(b'[', text) || starts(b'{', text)
 }
 
 /// A flow on its line, where so many levels are left, and the lines ahead behind it.

@@ -4,8 +4,8 @@ use Rattle.std.proofs.lemmas.Result.{err_from_is_err_and}
 use Rattle.pn_yaml.specs.declared.node.Node.{Node}
 use Rattle.pn_yaml.specs.Data.{Data, list, map}
 use Rattle.pn_yaml.specs.Outcome.{Fails, Gives}
-use Rattle.pn_yaml.specs.Flow.{flow_at, flow_value}
-use Rattle.pn_yaml.specs.FlowSteps.{before_step, behind_step, flow_key}
+use Rattle.pn_yaml.specs.Flow.{flow_at, flow_key, flow_value}
+use Rattle.pn_yaml.specs.FlowSteps.{before_step, behind_step}
 use Rattle.pn_yaml.specs.KeySets.{AreKeys, seen_of}
 use Rattle.pn_yaml.specs.View.{items_of, members_view, view}
 use Rattle.pn_yaml.proofs.Flows.{ItemsSoFar, MembersSoFar, flow_list, flow_map, flow_within, items_closed, items_ended, items_on, items_unbegun, items_unended, items_unread, key_shorter, member_read, members_closed, members_ended, members_on, members_unbegun, members_unended, members_unkeyed, members_unvalued, value_shorter}
