@@ -119,7 +119,7 @@ fn another_installer_stops_before_its_listing(rt: HostRuntime) -> Result<(), Fai
 fn what_ours_put_stands_beside_another_installer(rt: HostRuntime) -> Result<(), Fail> {
     let alloc = rt.alloc();
     for (end, apart, number, left) in [(11, 0, 0, 0), (11, 1, 1, 0), (9, 0, 1, 1)] {
-        for (bytes, text, more) in [(b"abc".as_slice(), LISTING, 0), (OURS, OUR_LISTING, 1)] {
+        for (bytes, text, both) in [(b"abc".as_slice(), LISTING, 1), (OURS, OUR_LISTING, 2)] {
             let mut disk = beside(alloc, 0, end, NONE, apart)?;
             if number == 1 {
                 assert!(rt; !put(alloc, &mut disk, 0, bytes)??);
@@ -128,10 +128,8 @@ fn what_ours_put_stands_beside_another_installer(rt: HostRuntime) -> Result<(), 
             assert!(rt; reads_back(&mut disk, Place::Files, b"abc")?);
             assert!(rt; reads_back(&mut disk, Place::Files, bytes)?);
             assert!(rt; reads_back(&mut disk, Place::Listings, text)?);
-            let (files, listings, numbers) = counts(&mut disk)?;
-            assert_eq!(rt; files, 1 + more);
-            assert_eq!(rt; listings, if left == 1 { 1 } else { 1 + more });
-            assert_eq!(rt; numbers, left);
+            let listings = if left == 1 { 1 } else { both };
+            assert_eq!(rt; counts(&mut disk)?, (both, listings, left));
         }
     }
     Ok(())
