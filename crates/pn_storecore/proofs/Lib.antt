@@ -16,4 +16,5 @@ pub mod Leaving
 pub mod Claims
 pub mod Discards
 pub mod Worlds
+pub mod Past
 pub mod Scripts
