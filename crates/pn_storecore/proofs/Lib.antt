@@ -16,6 +16,7 @@ pub mod Leaving
 pub mod Claims
 pub mod Discards
 pub mod Worlds
+pub mod Past
 pub mod Scripts
 pub mod Listed
 pub mod Schedules

@@ -17,7 +17,7 @@ use Rattle.pn_storecore.specs.Lawful.{AreLawfulOrDiscards}
 use Rattle.pn_storecore.specs.Seen.{Seen, Keeps, Asks, fresh}
 use Rattle.pn_storecore.specs.Calls.{Answers, Does, Appends, IsClaim, IsRead, AreAddresses, AreNumbersOf}
 use Rattle.pn_storecore.specs.Held.{Holds, HasShard, HasObject, HasBytes, HasDigest, IsFree, IsSoundStore, IsIn, Spares, files_after, files_with, no_files, TempFiles}
-use Rattle.pn_storecore.specs.Grew.{Did, Grew, Stood, Took, TookNone}
+use Rattle.pn_storecore.specs.Grew.{Did, Grew, Stood, Took, TookNone, Was, ReadTo}
 
 -- What an installer holds and knows lets it make a step.
 pub record AsksLaw : Type 0 where
@@ -100,3 +100,11 @@ pub record ClaimsLaw : Type 0 where
   pub stood_behind : (a b c : Seen) (k : ℕ) → Stood k a b → Grew b c → Stood k a c
   pub took_before : (a b c : Seen) (k : ℕ) → Grew a b → Took k b c → Took k a c
   pub took_behind : (a b c : Seen) (k : ℕ) → Took k a b → Grew b c → Took k a c
+
+-- What stood at an address at a step of some calls: what a read found, and what stands at their end.
+pub record WasLaw : Type 0 where
+  pub read : (old new : Seen) (place : Place) (at : List ℕ) (from : ℕ) (into : List ℕ) (result : Result (Option ℕ) DevFault) → Keeps old new → Answers old step.Read new result (λ w found. IsRead ((objects w place).bytes at) from into found)
+      → IfOk result (λ found. IfSome old.journal (λ j. ReadTo place at from into found j new.journal))
+  pub now : (old new : Seen) (place : Place) (at bytes : List ℕ) → Grew old new → HasBytes new place at bytes → Was place at (Some bytes) old new
+  pub before : (a b c : Seen) (place : Place) (at : List ℕ) (bytes : Option (List ℕ)) → Grew a b → Was place at bytes b c → Was place at bytes a c
+  pub behind : (a b c : Seen) (place : Place) (at : List ℕ) (bytes : Option (List ℕ)) → Was place at bytes a b → Grew b c → Was place at bytes a c

@@ -1,12 +1,13 @@
 -- What calls do to a told journal, whatever they answer.
-use Rattle.std.specs.Prelude.{◌≡◌, ◌≢◌, ◌⊎◌, ℕ, [], ◌∷◌, ◌++◌, Option, Some, None, IfSome}
+use Rattle.std.specs.Prelude.{◌≡◌, ◌≢◌, ◌⊎◌, ℕ, List, [], ◌∷◌, ◌++◌, Option, Some, None, IfSome}
+use Rattle.pn_storecore.specs.declared.step.Place.{Place}
 use Rattle.pn_storecore.specs.declared.step.StoreStep.{StoreStep}
 use Rattle.pn_storecore.specs.declared.step.StoreStep.TheVariants.{Claim, Append}
-use Rattle.pn_storecore.specs.World.{World}
+use Rattle.pn_storecore.specs.World.{World, objects}
 use Rattle.pn_storecore.specs.Steps.{Event, Journal, after, world_of}
 use Rattle.pn_storecore.specs.Lawful.{AreLawful, AreOthers}
 use Rattle.pn_storecore.specs.Seen.{Seen, Keeps}
-use Rattle.pn_storecore.specs.Calls.{IsFront}
+use Rattle.pn_storecore.specs.Calls.{IsFront, IsRead}
 
 -- what may have been made of a call's step: the step, or of an append a front of its bytes
 abbrev pub IsPart : StoreStep → StoreStep → Type 0
@@ -77,3 +78,20 @@ pub record TookNoneTo (me k : ℕ) (old : Journal) (new : Option Journal) : Type
 pub record TookNone (k : ℕ) (old new : Seen) : Type 0 where
   pub kept : Keeps old new
   pub journal : IfSome old.journal (λ j. TookNoneTo old.me k j new.journal)
+
+-- Between the two journals exactly this stood at the address, or nothing.
+pub record WasTo (place : Place) (at : List ℕ) (bytes : Option (List ℕ)) (old : Journal) (new : Option Journal) : Type 0 where
+  pub front : Journal
+  pub back : Journal
+  pub came : new ≡ Some (old ++ front ++ back)
+  pub was : (objects (world_of (old ++ front)) place).bytes at ≡ bytes
+
+-- at a step between, exactly these bytes stood at the address, or none
+abbrev pub Was : Place → List ℕ → Option (List ℕ) → Seen → Seen → Type 0
+Was place at bytes old new = IfSome old.journal (λ j. WasTo place at bytes j new.journal)
+
+-- What a read found is by the bytes that stood at the address at a step between.
+pub record ReadTo (place : Place) (at : List ℕ) (from : ℕ) (into : List ℕ) (found : Option ℕ) (old : Journal) (new : Option Journal) : Type 0 where
+  pub bytes : Option (List ℕ)
+  pub was : WasTo place at bytes old new
+  pub answer : IsRead bytes from into found

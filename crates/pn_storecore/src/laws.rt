@@ -1,6 +1,6 @@
 // The laws of lawful steps.
 ghost use Rattle.pn_storecore.specs.Laws.{SoundLaw, PublishedLaw, OwnerLaw, PlaceLaw};
-ghost use Rattle.pn_storecore.specs.CallLaws.{AsksLaw, HoldsLaw, StandsLaw, DidLaw, LeavesLaw, GrewLaw, ClaimsLaw};
+ghost use Rattle.pn_storecore.specs.CallLaws.{AsksLaw, HoldsLaw, StandsLaw, DidLaw, LeavesLaw, GrewLaw, ClaimsLaw, WasLaw};
 ghost use Rattle.pn_storecore.specs.DiscardLaws.{DiscardLaw, AloneLaw};
 
 /// The empty store is sound. Lawful steps of any number of installers leave a sound world after each
@@ -64,6 +64,12 @@ pub fn grew_law()
 /// answered false. No other call makes it.
 pub fn claims_law()
     ensures { ClaimsLaw }
+{}
+
+/// What a read found is by what stood at the address at a step of the call, and what stood at a step of
+/// a call stood at one of the calls around it.
+pub fn was_law()
+    ensures { WasLaw }
 {}
 
 /// A discard takes away what it is of and leaves what else stands. It leaves a sound store, if it is of

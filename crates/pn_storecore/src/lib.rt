@@ -32,7 +32,7 @@ pub use conditions::FILE_LIMIT;
 pub use disk::StoreDisk;
 pub use laws::{
     alone_law, asks_law, claims_law, did_law, discard_law, grew_law, holds_law, leaves_law,
-    owner_law, place_law, published_law, sound_law, stands_law,
+    owner_law, place_law, published_law, sound_law, stands_law, was_law,
 };
 pub use mem::MemStore;
 pub use step::{Discard, Place, StoreStep};

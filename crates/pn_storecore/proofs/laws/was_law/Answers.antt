@@ -1,0 +1,5 @@
+use Rattle.pn_storecore.proofs.Past.{was}
+use Rattle.pn_storecore.proofs.laws.was_law.Goals as goal
+
+pub returns : goal.returns
+returns c = was
