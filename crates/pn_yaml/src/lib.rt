@@ -33,8 +33,6 @@ pub use print_block::print;
 pub use reading::read;
 
 #[cfg(test)]
-mod flow_tests;
-#[cfg(test)]
 mod print_tests;
 #[cfg(test)]
 mod read_tests;
