@@ -12,7 +12,7 @@ use Rattle.pn_yaml.specs.Outcome.{◌>>=◌, Fails, wrong}
 use Rattle.pn_yaml.specs.Flow.{Reader, behind_value, flow_at, flow_items, flow_key, flow_member, flow_members, flow_value, is_flow, list_in, map_in, with_item, with_member}
 use Rattle.pn_yaml.specs.FlowSteps.{before_step, behind_step}
 use Rattle.pn_yaml.specs.KeySets.{seen_of}
-use Rattle.pn_yaml.specs.Scalars.{Word, is_colon, word_at}
+use Rattle.pn_yaml.specs.Scalars.{is_colon, word_at}
 use Rattle.pn_yaml.specs.View.{items_of, members_of, view}
 use Rattle.pn_yaml.proofs.Failing.{fails_as}
 use Rattle.pn_yaml.proofs.KeyLists.{seen_more}

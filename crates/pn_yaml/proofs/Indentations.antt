@@ -1,9 +1,9 @@
 -- The spaces that a text begins with.
-use Rattle.std.proofs.Common.{◌≡◌, ◌≢◌, ℕ, zero, suc, ◌+◌, ◌<◌, ◌≤◌, Bool, true, false, cond, eqb, List, [], ◌∷◌, length, get_or, drop, refl, arith, IsTrue}
+use Rattle.std.proofs.Common.{◌≡◌, ◌≢◌, ℕ, zero, suc, ◌+◌, ◌<◌, ◌≤◌, Bool, true, false, cond, eqb, List, [], ◌∷◌, length, get_or, drop, refl, arith}
 use Rattle.std.specs.Str.{IsUtf8, IsCharBoundary}
 use Rattle.std.proofs.lemmas.Bool.{eqb-true, eq-eqb, ne_eqb}
 use Rattle.std.proofs.lemmas.Str.{IsCharBoundary-start, IsCharBoundary-after_ascii}
-use Rattle.pn_yaml.specs.Bytes.{indentation, unindented, starts, tail_of}
+use Rattle.pn_yaml.specs.Bytes.{indentation, unindented}
 
 pub indentation_step : (t : List ℕ) (i : ℕ) → i < length t → get_or t i 0 ≡ 32 → indentation (drop i t) ≡ suc (indentation (drop (suc i) t))
 indentation_step [] i lt e = absurd (omega arith)

@@ -7,7 +7,7 @@ use Rattle.pn_yaml.specs.declared.fault.YamlFault.{YamlFault}
 use Rattle.pn_yaml.specs.declared.fault.YamlFault.TheVariants as fault
 use Rattle.pn_yaml.specs.declared.scalar.Place.TheVariants as place
 use Rattle.pn_yaml.specs.Bytes.{space, starts, tail_of, unindented, is_blank, trimmed, ends_word, is_bare}
-use Rattle.pn_yaml.specs.Data.{Data, scalar, list, map, Items, no_items, item, Members, no_members, member, is_among}
+use Rattle.pn_yaml.specs.Data.{Data, scalar, map, Items, no_items, Members, no_members, is_among}
 use Rattle.pn_yaml.specs.Outcome.{◌>>=◌, wrong}
 use Rattle.pn_yaml.specs.Rows.{Row, rows_of, row_indentation, content, ahead, first_ahead}
 use Rattle.pn_yaml.specs.Scalars.{word_at, plain_front, is_colon, on_some}

@@ -1,14 +1,14 @@
 -- What comes next in a flow.
-use Rattle.std.specs.Prelude.{ℕ, Bool, true, false, not, List, Result, Ok, if◌then◌else◌}
+use Rattle.std.specs.Prelude.{ℕ, Bool, true, false, List, Result, Ok, if◌then◌else◌}
 use Rattle.pn_yaml.specs.declared.fault.Why.TheVariants as why
 use Rattle.pn_yaml.specs.declared.fault.YamlFault.{YamlFault}
 use Rattle.pn_yaml.specs.declared.flow.Step.{Step}
 use Rattle.pn_yaml.specs.declared.flow.Step.TheVariants as steps
 use Rattle.pn_yaml.specs.declared.scalar.Place.TheVariants as place
 use Rattle.pn_yaml.specs.Bytes.{starts, tail_of, unindented, is_bare}
-use Rattle.pn_yaml.specs.Data.{Data, scalar, is_among}
+use Rattle.pn_yaml.specs.Data.{Data, scalar}
 use Rattle.pn_yaml.specs.Outcome.{◌>>=◌, wrong}
-use Rattle.pn_yaml.specs.Scalars.{word_at, is_colon}
+use Rattle.pn_yaml.specs.Scalars.{word_at}
 
 -- whether a flow is closed, and what is behind that or how it goes on
 abbrev pub step_of : Step → Bool × List ℕ
