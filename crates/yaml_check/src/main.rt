@@ -8,7 +8,7 @@ ghost use Rattle.std.specs.Prelude.{◌≡◌, ◌≤◌, true};
 ghost use Rattle.pn_yaml.specs.Data.{are_apart, depth};
 ghost use Rattle.pn_yaml.specs.View.{view};
 
-use pn_yaml::{Node, Why, YamlFault, print, read};
+use pn_yaml::{Node, YamlFault, print, read};
 use std::alloc::{AllocError, Global};
 use std::io;
 
@@ -62,24 +62,11 @@ fn push_printed(alloc: Global, out: &mut String, node: &Node) -> Result<(), Allo
     }
 }
 
-fn word(why: Why) -> &'static str {
-    match why {
-        Why::Tab => "tab",
-        Why::Indent => "indentation",
-        Why::Key => "key",
-        Why::Quote => "quote",
-        Why::Escape => "escape",
-        Why::Flow => "flow",
-        Why::Twice => "key twice",
-        Why::LeftOut => "left out",
-    }
-}
-
 fn refusal(alloc: Global, fault: YamlFault) -> Result<String, AllocError> {
     match fault {
         YamlFault::NotUtf8 => String::from_str(alloc, "refused not UTF-8"),
         YamlFault::Line(line, why) => {
-            let why = word(why);
+            let why = why.text();
             format!(in alloc; "refused {line} {why}")
         }
         YamlFault::TooDeep => String::from_str(alloc, "refused too deep"),
