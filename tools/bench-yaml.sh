@@ -23,14 +23,7 @@ text=$work/pnpm-lock.yaml
 [ "$(head -n 1 "$text")" = "lockfileVersion: '9.0'" ] || fail "$program prints no lockfile: $(head -n 1 "$text")"
 echo "bench-yaml: $program, a lockfile of $(wc -c <"$text") bytes"
 
-# it ends with 0 also where it can't read or print
-"$program" bench >"$work/speeds"
-cat "$work/speeds"
-speed=' [0-9][0-9]* MB/s$'
-if ! grep -q "^read:$speed" "$work/speeds" || ! grep -q "^print:$speed" "$work/speeds" ||
-  grep -qv -e "^read:$speed" -e "^print:$speed" "$work/speeds"; then
-  fail "$program didn't measure both speeds"
-fi
+"$program" bench || fail "$program doesn't read its lockfile, or prints other bytes of it"
 
 if ! python3 -c 'import yaml' 2>/dev/null; then
   echo "python's yaml library: skipped, it is missing"
