@@ -79,6 +79,8 @@ const manifests = (folder, depth) => {
   return found;
 };
 const ranges = new Set();
+// Specifiers of other kinds, which have a `:`, and texts that don't stand in a line.
+const others = new Set();
 for (const path of manifests(npm, 6)) {
   let manifest;
   try {
@@ -88,7 +90,7 @@ for (const path of manifests(npm, 6)) {
   }
   for (const field of ['dependencies', 'devDependencies', 'optionalDependencies', 'peerDependencies', 'engines']) {
     for (const text of Object.values(manifest[field] ?? {})) {
-      if (typeof text === 'string' && !text.includes('\n') && !text.includes(':')) ranges.add(text);
+      if (typeof text === 'string') (/[:\n]/.test(text) ? others : ranges).add(text);
     }
   }
 }
@@ -138,7 +140,7 @@ for (let i = 0; i < pairs.length; i += 1) {
 for (const [answer, count] of Object.entries(alike)) {
   if (count === 0) problems.push(`no pair is answered ${answer} by both`);
 }
-console.log(`check-ranges: ${pairs.length} pairs, semver ${release}, ${ranges.size} ranges of manifests`);
+console.log(`check-ranges: ${pairs.length} pairs, semver ${release}, ${ranges.size} ranges of manifests, ${others.size} other specifiers left out`);
 console.log(`  alike: ${alike.true} held, ${alike.false} not held, ${alike.refused} refused`);
 for (const [name, count] of counts) console.log(`  by design: ${name}: ${count}`);
 finish('check-ranges', problems);
