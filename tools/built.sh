@@ -49,7 +49,7 @@ build() {
 [ -d "$folder" ] || fail 1 "there is no folder $folder"
 if ! is_built; then
   command -v rt >/dev/null 2>&1 || fail 127 "to build the program, the kit's command rt has to be on the path"
-  echo "$name: building the program first; this proves the crates below it and may take some minutes" >&2
+  echo "$name: building the program first; this proves the crates below it and may take a quarter of an hour" >&2
   build
 fi
 printf '%s\n' "$program"
