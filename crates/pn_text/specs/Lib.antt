@@ -4,3 +4,4 @@ pub mod Name
 pub mod NameFaults
 pub mod Causes
 pub mod Relative
+pub mod Ids
