@@ -1,0 +1,50 @@
+use Rattle.pn_walk.specs.Walks.{turn_by}
+use Rattle.pn_walk.proofs.Taking.{on_ways, took_from, refused_from, keeps_on, keeps_same}
+use Rattle.pn_walk.proofs.Going.{took_none, took_next, stops_in}
+use Rattle.pn_walk.proofs.state.Queue.take_all.Goals as goal
+
+pub loop-wish-init : goal.loop-wish-init
+loop-wish-init g c =
+    let a = c.args.ways.now in
+    let W = g.W.Ways in
+    record {
+      took = took_none (W.leads a) (W.node a) c.args.self.now;
+      good = c.requires.good;
+      tied = c.requires.tied;
+      follows = g.met.W.Ways.rests a;
+      kept = keeps_same (W.leads a) (W.node a) (W.lost a) (W.unread a);
+    }
+
+pub returns-in-Err-clause-refused : goal.returns-in-Err-clause-refused
+returns-in-Err-clause-refused g c =
+    let a = c.args.ways.now in
+    let b = c.loop-wish.ways in
+    let W = g.W.Ways in
+    let w = c.wish-item.result in
+    stops_in (W.leads a) (W.node a) (W.lost a) (W.unread a) c.args.who c.args.wishes.now c.loop-wish.wish-index w c.args.self.now c.loop-wish.self c.in-Err.fault
+    c.loop-wish-test.true c.wish-item.is c.loop-wish.invariant.took
+    (refused_from (W.leads a) (W.leads b) (W.node a) (W.node b) (W.lost a) (W.lost b) (W.unread a) (W.unread b) c.loop-wish.self.nodes.items w c.in-Err.fault c.loop-wish.invariant.kept c.in-Err.ensures.refused)
+
+pub loop-wish-preserved : goal.loop-wish-preserved
+loop-wish-preserved g c =
+    let a = c.args.ways.now in
+    let b = c.loop-wish.ways in
+    let d = c.take.new.ways in
+    let W = g.W.Ways in
+    let w = c.wish-item.result in
+    record {
+      took = took_next (W.leads a) (W.node a) c.args.who c.args.wishes.now c.loop-wish.wish-index w c.args.self.now c.loop-wish.self c.take.new.self c.loop-wish-test.true c.wish-item.is c.loop-wish.invariant.took
+          (took_from (W.leads a) (W.leads b) (W.node a) (W.node b) (W.lost a) (W.lost b) (W.unread a) (W.unread b) (turn_by c.args.who w) c.loop-wish.self c.take.new.self c.loop-wish.invariant.kept c.in_default.ensures.took);
+      good = c.take.ensures.good;
+      tied = c.in_default.ensures.tied;
+      follows = g.met.W.Ways.goes_on a b d c.loop-wish.invariant.follows c.take.ensures.follows;
+      kept = keeps_on (W.leads a) (W.leads b) (W.leads d) (W.node a) (W.node b) (W.node d) (W.lost a) (W.lost b) (W.lost d) (W.unread a) (W.unread b) (W.unread d) c.loop-wish.invariant.kept c.take.ensures.kept;
+    }
+
+pub returns-in-Err-clause-follows : goal.returns-in-Err-clause-follows
+returns-in-Err-clause-follows g c = g.met.W.Ways.goes_on c.args.ways.now c.loop-wish.ways c.take.new.ways c.loop-wish.invariant.follows c.take.ensures.follows
+
+pub returns-in-Err-clause-broke : goal.returns-in-Err-clause-broke
+returns-in-Err-clause-broke g c =
+    let W = g.W.Ways in
+    on_ways (W.broke c.loop-wish.ways c.take.new.ways) (W.broke c.args.ways.now c.take.new.ways) c.in-Err.fault (λ f k. g.met.W.Ways.broke_later c.args.ways.now c.loop-wish.ways c.take.new.ways f c.loop-wish.invariant.follows k) c.in-Err.ensures.broke

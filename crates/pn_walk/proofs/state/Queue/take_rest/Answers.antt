@@ -1,0 +1,53 @@
+use Rattle.std.proofs.Common.{◌≡◌, ◌<◌, List, length, map, subst, ap, arith, ◌∙◌, length-append, get_or}
+use Rattle.pn_walk.specs.Wants.{Wish, Node, at_package}
+use Rattle.pn_walk.specs.Walks.{turn_by}
+use Rattle.pn_walk.specs.Turns.{TookAll, StopsIn}
+use Rattle.pn_walk.proofs.Taking.{on_ways, keeps_on}
+use Rattle.pn_walk.proofs.Going.{walk_at, stops_at, stops, took_all_from, stops_in_from}
+use Rattle.pn_walk.proofs.state.Queue.take_rest.Goals as goal
+
+pub returns-in-Err-clause-refused : goal.returns-in-Err-clause-refused
+returns-in-Err-clause-refused g c = λ s w.
+    let a = c.args.ways.now in
+    let b = c.loop-k.ways in
+    let W = g.W.Ways in
+    let q = c.loop-k.self in
+    let n = c.in-Ok.ensures in
+    let within : c.loop-k.k < length q.nodes.items = omega (arith, c.if-k-len.false, c.len.ensures) in
+    let here : n.0 ≡ get_or q.nodes.items c.loop-k.k n.0 = n.1 ∙ ap (λ (l : List Node). get_or l c.loop-k.k n.0) c.as_slice.ensures.value in
+    let asks = c.as_slice-in-loop-k.ensures ∙ n.2 in
+    let refused = stops_in_from (W.leads a) (W.leads b) (W.node a) (W.node b) (W.lost a) (W.lost b) (W.unread a) (W.unread b) (map (turn_by (at_package c.loop-k.k)) c.as_slice-in-loop-k.result.now) q c.in-Err.fault c.loop-k.invariant.kept c.in-Err.ensures.refused in
+    stops (W.leads a) (W.node a) (W.lost a) (W.unread a) s c.in-Err.fault
+    (stops_at (W.leads a) (W.node a) (W.lost a) (W.unread a) s c.loop-k.k n.0 q c.in-Err.fault within here (c.loop-k.invariant.walks s w)
+    (subst (λ (ws : List Wish). StopsIn (W.leads a) (W.node a) (W.lost a) (W.unread a) (map (turn_by (at_package c.loop-k.k)) ws) q c.in-Err.fault) asks refused))
+
+pub loop-k-preserved : goal.loop-k-preserved
+loop-k-preserved g c =
+    let a = c.args.ways.now in
+    let b = c.loop-k.ways in
+    let d = c.take_all.new.ways in
+    let W = g.W.Ways in
+    let q = c.loop-k.self in
+    let r = c.take_all.new.self in
+    let n = c.in-Ok.ensures in
+    let within : c.loop-k.k < length q.nodes.items = omega (arith, c.if-k-len.false, c.len.ensures) in
+    let here : n.0 ≡ get_or q.nodes.items c.loop-k.k n.0 = n.1 ∙ ap (λ (l : List Node). get_or l c.loop-k.k n.0) c.as_slice.ensures.value in
+    let asks = c.as_slice-in-loop-k.ensures ∙ n.2 in
+    let took = took_all_from (W.leads a) (W.leads b) (W.node a) (W.node b) (W.lost a) (W.lost b) (W.unread a) (W.unread b) (map (turn_by (at_package c.loop-k.k)) c.as_slice-in-loop-k.result.now) q r c.loop-k.invariant.kept c.in_default-take_all.ensures.took in
+    let all : TookAll (W.leads a) (W.node a) (map (turn_by (at_package c.loop-k.k)) n.0.wishes) q r = subst (λ (ws : List Wish). TookAll (W.leads a) (W.node a) (map (turn_by (at_package c.loop-k.k)) ws) q r) asks took in
+    record {
+      walks = λ s w. walk_at (W.leads a) (W.node a) s c.loop-k.k n.0 q r within here (c.loop-k.invariant.walks s w) all;
+      within = omega (arith, within, ap length all.grows, length-append q.nodes.items all.added);
+      good = c.take_all.ensures.good;
+      tied = c.in_default-take_all.ensures.tied;
+      follows = g.met.W.Ways.goes_on a b d c.loop-k.invariant.follows c.take_all.ensures.follows;
+      kept = keeps_on (W.leads a) (W.leads b) (W.leads d) (W.node a) (W.node b) (W.node d) (W.lost a) (W.lost b) (W.lost d) (W.unread a) (W.unread b) (W.unread d) c.loop-k.invariant.kept c.take_all.ensures.kept;
+    }
+
+pub returns-in-Err-clause-follows : goal.returns-in-Err-clause-follows
+returns-in-Err-clause-follows g c = g.met.W.Ways.goes_on c.args.ways.now c.loop-k.ways c.take_all.new.ways c.loop-k.invariant.follows c.take_all.ensures.follows
+
+pub returns-in-Err-clause-broke : goal.returns-in-Err-clause-broke
+returns-in-Err-clause-broke g c =
+    let W = g.W.Ways in
+    on_ways (W.broke c.loop-k.ways c.take_all.new.ways) (W.broke c.args.ways.now c.take_all.new.ways) c.in-Err.fault (λ f k. g.met.W.Ways.broke_later c.args.ways.now c.loop-k.ways c.take_all.new.ways f c.loop-k.invariant.follows k) c.in-Err.ensures.broke

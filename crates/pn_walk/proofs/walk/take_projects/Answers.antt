@@ -1,0 +1,70 @@
+use Rattle.std.proofs.Common.{◌≡◌, get_or, List, map, take, drop, subst, sym, ap, ◌∙◌, suc}
+use Rattle.pn_walk.specs.Wants.{Wish, at_project}
+use Rattle.pn_walk.specs.Walks.{Turn, turn_by}
+use Rattle.pn_walk.specs.Starts.{turns_from}
+use Rattle.pn_walk.specs.Turns.{TookAll}
+use Rattle.pn_walk.proofs.Taking.{on_ways, keeps_on, keeps_same}
+use Rattle.pn_walk.proofs.Going.{took_none, took_all_from, stops_in_from}
+use Rattle.pn_walk.proofs.Starting.{split_first, more_first, took_on, stops_on}
+use Rattle.pn_walk.proofs.walk.take_projects.Goals as goal
+
+pub loop-q-init : goal.loop-q-init
+loop-q-init g c =
+    let a = c.args.ways.now in
+    let W = g.W.Ways in
+    record {
+      took = took_none (W.leads a) (W.node a) c.args.queue.now;
+      kept = keeps_same (W.leads a) (W.node a) (W.lost a) (W.unread a);
+      good = c.requires.good;
+      tied = c.requires.tied;
+      follows = g.met.W.Ways.rests a;
+    }
+
+pub returns-in-Err-clause-refused : goal.returns-in-Err-clause-refused
+returns-in-Err-clause-refused g c =
+    let a = c.args.ways.now in
+    let b = c.loop-q.ways in
+    let W = g.W.Ways in
+    let k = c.loop-q.q in
+    let ps = c.args.projects.now in
+    let ws = c.as_slice.result.now in
+    let here : ws ≡ get_or ps k ws = c.as_slice.ensures ∙ c.index-projects-q.is ∙ ap (λ (d : List Wish). get_or ps k d) (sym c.as_slice.ensures) in
+    stops_on (W.leads a) (W.node a) (W.lost a) (W.unread a) (turns_from 0 (take k ps)) (map (turn_by (at_project k)) ws) (turns_from (suc k) (drop (suc k) ps)) (turns_from 0 ps) c.args.queue.now c.loop-q.queue c.in-Err.fault
+    (split_first k ps ws c.loop-q-test.true here) c.loop-q.invariant.took
+    (stops_in_from (W.leads a) (W.leads b) (W.node a) (W.node b) (W.lost a) (W.lost b) (W.unread a) (W.unread b) (map (turn_by (at_project k)) ws) c.loop-q.queue c.in-Err.fault c.loop-q.invariant.kept c.in-Err.ensures.refused)
+
+pub returns-in-Err-clause-kept : goal.returns-in-Err-clause-kept
+returns-in-Err-clause-kept g c =
+    let a = c.args.ways.now in
+    let b = c.loop-q.ways in
+    let d = c.take_all.new.ways in
+    let W = g.W.Ways in
+    keeps_on (W.leads a) (W.leads b) (W.leads d) (W.node a) (W.node b) (W.node d) (W.lost a) (W.lost b) (W.lost d) (W.unread a) (W.unread b) (W.unread d) c.loop-q.invariant.kept c.take_all.ensures.kept
+
+pub returns-in-Err-clause-follows : goal.returns-in-Err-clause-follows
+returns-in-Err-clause-follows g c = g.met.W.Ways.goes_on c.args.ways.now c.loop-q.ways c.take_all.new.ways c.loop-q.invariant.follows c.take_all.ensures.follows
+
+pub returns-in-Err-clause-broke : goal.returns-in-Err-clause-broke
+returns-in-Err-clause-broke g c =
+    let W = g.W.Ways in
+    on_ways (W.broke c.loop-q.ways c.take_all.new.ways) (W.broke c.args.ways.now c.take_all.new.ways) c.in-Err.fault (λ f k. g.met.W.Ways.broke_later c.args.ways.now c.loop-q.ways c.take_all.new.ways f c.loop-q.invariant.follows k) c.in-Err.ensures.broke
+
+pub loop-q-preserved : goal.loop-q-preserved
+loop-q-preserved g c =
+    let a = c.args.ways.now in
+    let b = c.loop-q.ways in
+    let d = c.take_all.new.ways in
+    let W = g.W.Ways in
+    let k = c.loop-q.q in
+    let ps = c.args.projects.now in
+    let ws = c.as_slice.result.now in
+    let here : ws ≡ get_or ps k ws = c.as_slice.ensures ∙ c.index-projects-q.is ∙ ap (λ (d : List Wish). get_or ps k d) (sym c.as_slice.ensures) in
+    record {
+      took = subst (λ (l : List Turn). TookAll (W.leads a) (W.node a) l c.args.queue.now c.take_all.new.self) (sym (more_first k ps ws c.loop-q-test.true here))
+          (took_on (W.leads a) (W.node a) (turns_from 0 (take k ps)) (map (turn_by (at_project k)) ws) c.args.queue.now c.loop-q.queue c.take_all.new.self c.loop-q.invariant.took
+          (took_all_from (W.leads a) (W.leads b) (W.node a) (W.node b) (W.lost a) (W.lost b) (W.unread a) (W.unread b) (map (turn_by (at_project k)) ws) c.loop-q.queue c.take_all.new.self c.loop-q.invariant.kept c.in_default.ensures.took));
+      kept = keeps_on (W.leads a) (W.leads b) (W.leads d) (W.node a) (W.node b) (W.node d) (W.lost a) (W.lost b) (W.lost d) (W.unread a) (W.unread b) (W.unread d) c.loop-q.invariant.kept c.take_all.ensures.kept;
+      good = c.take_all.ensures.good;
+      tied = c.in_default.ensures.tied;
+      follows = g.met.W.Ways.goes_on a b d c.loop-q.invariant.follows c.take_all.ensures.follows;
+    }

@@ -1,0 +1,63 @@
+// What wishes lead to, and what packages ask for.
+ghost use Rattle.std.specs.Prelude.{◌≡◌, Option, IfOk, IfErr};
+ghost use Rattle.pn_walk.specs.Keeping.{Keeps};
+ghost use Rattle.pn_walk.specs.Wants.{Wish as TheWish, Id as TheId, Aim as TheAim, Node as TheNode};
+
+use crate::node::Node;
+use crate::wish::{Aim, Wish};
+use pn_text::PkgId;
+use std::alloc::Global;
+
+/// What wishes lead to, and what packages ask for.
+pub trait Ways {
+    /// Why a wish leads nowhere, or a package isn't told.
+    type Fault: Drop;
+
+    /// What the object keeps of itself from call to call.
+    ghost good: { Self → Type 0 };
+
+    /// What a wish leads to.
+    ghost leads: { Self → TheWish → Option TheAim → Type 0 };
+
+    /// The packages.
+    ghost node: { Self → TheNode → Type 0 };
+
+    /// Why a wish leads nowhere.
+    ghost lost: { Self → TheWish → Self.Fault → Type 0 };
+
+    /// Why an id isn't that of a package.
+    ghost unread: { Self → TheId → Self.Fault → Type 0 };
+
+    /// How a call may leave the object.
+    ghost follows: { Self → Self → Type 0 };
+
+    /// What a refusal says of the calls before it, as that a count rose.
+    ghost broke: { Self → Self → Self.Fault → Type 0 };
+
+    /// What a wish leads to, or that it may come to nothing.
+    fn follow(&mut self, alloc: Global, wish: &Wish) -> Result<Option<Aim>, Self::Fault>
+        requires { good self.old }
+        ensures aim { IfOk result (leads self.old wish.now) }
+        ensures lost { IfErr result (lost self.old wish.now) }
+        ensures kept { Keeps (leads self.old) (leads self.new) (node self.old) (node self.new) (lost self.old) (lost self.new) (unread self.old) (unread self.new) }
+        ensures good { good self.new }
+        ensures follows { follows self.old self.new }
+        ensures broke { IfErr result (broke self.old self.new) };
+
+    /// The package of an id.
+    fn read(&mut self, alloc: Global, id: &PkgId) -> Result<Node, Self::Fault>
+        requires { good self.old }
+        ensures node { IfOk result (node self.old) }
+        ensures here { IfOk result (λ n. n.id ≡ id.now) }
+        ensures unread { IfErr result (unread self.old id.now) }
+        ensures kept { Keeps (leads self.old) (leads self.new) (node self.old) (node self.new) (lost self.old) (lost self.new) (unread self.old) (unread self.new) }
+        ensures good { good self.new }
+        ensures follows { follows self.old self.new }
+        ensures broke { IfErr result (broke self.old self.new) };
+
+    ghost rests: { (a : Self) → follows a a };
+
+    ghost goes_on: { (a b c : Self) → follows a b → follows b c → follows a c };
+
+    ghost broke_later: { (a b c : Self) (f : Self.Fault) → follows a b → broke b c f → broke a c f };
+}
