@@ -5,7 +5,7 @@ use Rattle.std.specs.List.{list_all, list_any}
 use Rattle.std.proofs.lemmas.Bool.{true≢false, and_from, and_parts, or_parts, or_right, not-true, not_from_false, cond_both, ne_eqb}
 use Rattle.std.proofs.lemmas.List.Folds.{list_all-append}
 use Rattle.pn_yaml.specs.Data.{Data, scalar, list, map, Items, no_items, item, Members, no_members, member}
-use Rattle.pn_yaml.specs.Words.{begins_wrong, digit_text, doubled, escaped, escaped_byte, holds_pair, is_control, is_one_of, is_plain, is_shown, may_be_plain, word_text}
+use Rattle.pn_yaml.specs.PrintedScalars.{begins_wrong, digit_text, doubled, escaped, escaped_byte, holds_pair, is_control, is_one_of, is_plain, is_shown, may_be_plain, word_text}
 use Rattle.pn_yaml.specs.Printing.{key_text, flow_text, items_text, later_items_text, members_text, later_members_text}
 use Rattle.pn_yaml.proofs.WordLaw.{Begins}
 

@@ -6,7 +6,7 @@ use Rattle.std.proofs.lemmas.Bool.{and_from, and_left, and_parts, cond-false, no
 use Rattle.std.proofs.lemmas.List.Folds.{list_all-append}
 use Rattle.pn_yaml.specs.Bytes.{space, starts}
 use Rattle.pn_yaml.specs.Data.{Data, scalar, list, map, Items, no_items, item, Members, no_members, member}
-use Rattle.pn_yaml.specs.Words.{word_text}
+use Rattle.pn_yaml.specs.PrintedScalars.{word_text}
 use Rattle.pn_yaml.specs.Printing.{Level, root, spread, dense, below, flow_text, gap, is_flow_key, item_text, items_lines, key_text, members_lines, printed, spaces, value_lines}
 use Rattle.pn_yaml.specs.Rows.{lines_of, numbered, onto_line, rows_of, unmarked, unreturned}
 use Rattle.pn_yaml.proofs.WordLaw.{Begins}

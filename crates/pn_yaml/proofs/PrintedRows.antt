@@ -4,7 +4,7 @@ use Rattle.std.specs.Prelude.{◌==◌, ◌&&◌, ◌||◌, not}
 use Rattle.std.proofs.lemmas.Bool.{and_cases, and_left, and_right, both_ways, cond_both, cond-false, or_from, or_parts}
 use Rattle.pn_yaml.specs.Bytes.{space, starts, is_empty, indentation, unindented, is_blank, is_bare}
 use Rattle.pn_yaml.specs.Data.{Data}
-use Rattle.pn_yaml.specs.Words.{escaped, doubled, holds_pair, is_control, is_plain}
+use Rattle.pn_yaml.specs.PrintedScalars.{escaped, doubled, holds_pair, is_control, is_plain}
 use Rattle.pn_yaml.specs.Printing.{is_flow_key, item_text, key_text, spaces}
 use Rattle.pn_yaml.specs.Rows.{Row, ahead, content, is_marker, is_passed_over, is_three, met, numbered, row_indentation}
 use Rattle.std.specs.List.{list_any}

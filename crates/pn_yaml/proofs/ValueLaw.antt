@@ -8,7 +8,7 @@ use Rattle.pn_yaml.specs.Bytes.{space, starts, is_empty, unindented, is_bare, is
 use Rattle.pn_yaml.specs.Data.{Data, scalar, list, map, Items, no_items, item, Members, no_members, member, depth, are_apart}
 use Rattle.pn_yaml.specs.Laws.{PrintLaw}
 use Rattle.pn_yaml.specs.Outcome.{◌>>=◌}
-use Rattle.pn_yaml.specs.Words.{is_plain, word_text}
+use Rattle.pn_yaml.specs.PrintedScalars.{is_plain, word_text}
 use Rattle.pn_yaml.specs.Printing.{Level, root as at_root, below, flow_marked, flow_text, is_flow_key, item_text, items_marked, members_marked, printed, spaces}
 use Rattle.pn_yaml.specs.Scalars.{Word, plain_front, on_some, word_at}
 use Rattle.pn_yaml.specs.Flow.{flow_at, is_flow}

@@ -2,7 +2,7 @@
 use Rattle.std.proofs.Common.{◌≡◌, ℕ, Bool, true, false, List, [], ◌∷◌, length, Some, refl, sym, ap, subst, ◌∙◌, arith, inl, inr}
 use Rattle.std.specs.Prelude.{◌==◌, ◌&&◌}
 use Rattle.std.specs.Char.{is_ascii_digit}
-use Rattle.std.proofs.lemmas.Bool.{cases_Bool}
+use Rattle.std.proofs.lemmas.Bool.{and_parts, and_right, cases_Bool}
 use Rattle.std.proofs.lemmas.Bool.Decides.{nat_tests}
 use Rattle.semver.specs.Grammar.{is_build_identifier, is_identifier_byte, is_pre_identifier, has_leading_zero}
 use Rattle.semver.specs.Order.{is_numeric}
@@ -10,20 +10,8 @@ use Rattle.pn_ranges.specs.declared.fault.Stop.TheVariants.{Byte}
 use Rattle.pn_ranges.specs.Bytes.{is_digit, front_of, behind, starts_with}
 use Rattle.pn_ranges.specs.Reading.{Spanned}
 use Rattle.pn_ranges.specs.Places.{Turn, hyphen, naught, zeros, pre, plus, build, first_fault}
-use Rattle.pn_ranges.proofs.Fronts.{front-behind, front-all, behind-stops}
-use Rattle.pn_ranges.proofs.Steps.{run}
-
-pub and_left : (x y : Bool) → (x && y) ≡ true → x ≡ true
-and_left true y h = refl
-and_left false y h = h
-
-pub and_right : (x y : Bool) → (x && y) ≡ true → y ≡ true
-and_right true y h = h
-and_right false y h = cc h
-
-pub and_false : (x y : Bool) → y ≡ false → (x && y) ≡ false
-and_false true y h = h
-and_false false y h = refl
+use Rattle.pn_ranges.proofs.FrontOfLemmas.{front-behind, front-all, behind-stops}
+use Rattle.pn_ranges.proofs.FirstFaultLemmas.{run}
 
 digit-id : (b : ℕ) → is_digit b ≡ true → is_identifier_byte b ≡ true
 digit-id b h = grind (arith, nat_tests)
@@ -58,17 +46,17 @@ pre-good : (part : List ℕ) → is_build_identifier part ≡ true → (is_numer
 pre-good part h z = rw (h, z) refl
 
 not_numeric : (b : ℕ) (t : List ℕ) → is_numeric t ≡ false → is_numeric (b ∷ t) ≡ false
-not_numeric b t h = and_false (is_ascii_digit b) (is_numeric t) h
+not_numeric b t h = and_right (is_ascii_digit b) (is_numeric t) h
 
 front-pre : (b : ℕ) (rest : List ℕ) → is_identifier_byte b ≡ true → ((b == 48) && starts_with is_digit rest) ≡ false → is_pre_identifier (b ∷ front_of is_identifier_byte rest) ≡ true
 front-pre b rest h z = pre-good (b ∷ front_of is_identifier_byte rest) (front-build b rest h) (elim (cases_Bool (b == 48)) [
   | inl zero ↦ elim (cases_Bool (is_numeric (front_of is_identifier_byte rest))) [
     | inl numeric ↦
         let none = zero-ends rest (rw zero at z) numeric in
-        and_false (is_numeric (b ∷ front_of is_identifier_byte rest)) (has_leading_zero (b ∷ front_of is_identifier_byte rest)) (rw (none, zero) refl)
+        and_right (is_numeric (b ∷ front_of is_identifier_byte rest)) (has_leading_zero (b ∷ front_of is_identifier_byte rest)) (rw (none, zero) refl)
     | inr word ↦ ap (λ x. x && has_leading_zero (b ∷ front_of is_identifier_byte rest)) (not_numeric b (front_of is_identifier_byte rest) word)
   ]
-  | inr other ↦ and_false (is_numeric (b ∷ front_of is_identifier_byte rest)) (has_leading_zero (b ∷ front_of is_identifier_byte rest)) (rw other refl)
+  | inr other ↦ and_right (is_numeric (b ∷ front_of is_identifier_byte rest)) (has_leading_zero (b ∷ front_of is_identifier_byte rest)) (rw other refl)
 ])
 
 front-zero : (b : ℕ) (rest : List ℕ) → is_identifier_byte b ≡ true → starts_with is_identifier_byte (behind is_digit rest) ≡ true → is_pre_identifier (b ∷ front_of is_identifier_byte rest) ≡ true
@@ -141,13 +129,13 @@ pre-goes e text rest b t h z = ap (first_fault (hyphen e)) t ∙ elim (cases_Boo
 pub zero-goes : (e : Turn) (text rest : List ℕ) (b : ℕ) → text ≡ b ∷ rest → ((b == 48) && starts_with is_digit rest) ≡ true → starts_with is_identifier_byte (behind is_digit rest) ≡ true
     → first_fault (hyphen e) text ≡ first_fault (pre e) (behind is_identifier_byte (behind is_digit rest))
 zero-goes e text rest b t z h =
-    ap (first_fault (hyphen e)) t ∙ hyphen-naught e rest b (and_left _ (starts_with is_digit rest) z) ∙ naught-zeros e rest (and_right (b == 48) _ z)
+    ap (first_fault (hyphen e)) t ∙ hyphen-naught e rest b (and_parts _ (starts_with is_digit rest) z).0 ∙ naught-zeros e rest (and_parts (b == 48) _ z).1
     ∙ zeros-pre e (behind is_digit rest) (behind-stops is_digit rest) h ∙ pre-run e (behind is_digit rest)
 
 pub zero-stops : (e : Turn) (text rest : List ℕ) (b : ℕ) → text ≡ b ∷ rest → ((b == 48) && starts_with is_digit rest) ≡ true → starts_with is_identifier_byte (behind is_digit rest) ≡ false
     → first_fault (hyphen e) text ≡ Some (Byte (length (behind is_digit rest)))
 zero-stops e text rest b t z h =
-    ap (first_fault (hyphen e)) t ∙ hyphen-naught e rest b (and_left _ (starts_with is_digit rest) z) ∙ naught-zeros e rest (and_right (b == 48) _ z)
+    ap (first_fault (hyphen e)) t ∙ hyphen-naught e rest b (and_parts _ (starts_with is_digit rest) z).0 ∙ naught-zeros e rest (and_parts (b == 48) _ z).1
     ∙ zeros-stop e (behind is_digit rest) (behind-stops is_digit rest) h
 
 pub build-goes : (e : Turn) (text rest : List ℕ) (b : ℕ) → text ≡ b ∷ rest → is_identifier_byte b ≡ true → first_fault (plus e) text ≡ first_fault (build e) (behind is_identifier_byte rest)

@@ -7,7 +7,7 @@ use Rattle.pn_ranges.specs.declared.fault.Stop.{Stop}
 use Rattle.pn_ranges.specs.declared.fault.Stop.TheVariants.{Byte, Number}
 use Rattle.pn_ranges.specs.Bytes.{is_space, is_digit, behind, starts_with}
 use Rattle.pn_ranges.specs.Places.{Turn, State, first, later, upper, after, bar, dot, whole, digits, hyphen, plus, step, whole_step, after_step, is_digits, is_large, on_step, first_fault, fault_after}
-use Rattle.pn_ranges.proofs.Fronts.{behind-next, behind-same}
+use Rattle.pn_ranges.proofs.FrontOfLemmas.{behind-next, behind-same}
 
 -- one byte on
 pub fault-step : (s next : State) (b : ℕ) (rest : List ℕ) → step s b ≡ Some next → is_large s next (b ∷ rest) ≡ false → first_fault s (b ∷ rest) ≡ first_fault next rest
