@@ -1,4 +1,4 @@
-use Rattle.std.proofs.Common.{Vec, Global, map, ap, ◌∙◌}
+use Rattle.std.proofs.Common.{Vec, Global, map, ap, ◌∙◌, [], ◌∷◌}
 use Rattle.std.proofs.lemmas.List.{map-append}
 use Rattle.pn_ranges.specs.declared.bound.Bound.{Bound}
 use Rattle.pn_ranges.specs.Bytes.{behind, front_of, is_space}
