@@ -284,19 +284,16 @@ begins s next b _ _ w e (here _ m c rest k l) h = elim (cases_Bool (is_digit b))
 ]
 begins s next b _ _ w e (later _ m c at rest k l i) h = cc h
 
-first-byte : (b c : ℕ) (s t : List ℕ) → b ∷ s ≡ c ∷ t → b ≡ c
-first-byte b c s t h = cc h
-
-next-bytes : (b c : ℕ) (s t : List ℕ) → b ∷ s ≡ c ∷ t → s ≡ t
-next-bytes b c s t h = cc h
-
 apart : (s : State) (text : List ℕ) (at : ℕ) → ill s ≡ false → LargeIn s text at → (before : List ℕ) (c : ℕ) → take at text ≡ before ++ c ∷ [] → is_digit c ≡ false
 apart s _ _ w (here _ next b rest e l) [] c h = cc h
 apart s _ _ w (here _ next b rest e l) (d ∷ before) c h = cc h
 apart s _ _ w (later _ next b at rest e l i) [] c h =
-    subst (λ z. is_digit z ≡ false) (first-byte b c (take at rest) [] h) (begins s next b at rest w e i (next-bytes b c (take at rest) [] h))
+    let same : b ≡ c = cc h in
+    let none : take at rest ≡ [] = cc h in
+    subst (λ z. is_digit z ≡ false) same (begins s next b at rest w e i none)
 apart s _ _ w (later _ next b at rest e l i) (d ∷ before) c h =
-    apart next rest at (sym (ap (λ o. on_some o ill) e) ∙ stays-well s b) i before c (next-bytes b d (take at rest) (before ++ c ∷ []) h)
+    let later : take at rest ≡ before ++ c ∷ [] = cc h in
+    apart next rest at (sym (ap (λ o. on_some o ill) e) ∙ stays-well s b) i before c later
 
 long : (s : State) (text : List ℕ) (at : ℕ) → LargeIn s text at → nat_le (2 ^ 64) (number_at (drop at text)) ≡ true
 long s _ _ (here _ next b rest e l) = (large-digits (is_digits next) (is_digits s) (nat_le (2 ^ 64) (number_at (b ∷ rest))) l).2

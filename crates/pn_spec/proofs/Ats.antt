@@ -159,12 +159,11 @@ pub tag-no-at : (t : List ℕ) → is_tag t ≡ true → has_at t ≡ false
 tag-no-at [] h = refl
 tag-no-at (b ∷ t) h = plain-no-at (b ∷ t) (rw (letter-byte b (and_parts (is_letter b) (list_all is_name_byte t) h).0, (and_parts (is_letter b) (list_all is_name_byte t) h).1) refl)
 
-first-byte : (b : ℕ) → is_first b ≡ true → is_name_byte b ≡ true
-first-byte b h = rw h refl
-
 part-no-at : (t : List ℕ) → is_name_part t ≡ true → has_at t ≡ false
 part-no-at [] h = refl
-part-no-at (b ∷ t) h = plain-no-at (b ∷ t) (rw (first-byte b (and_parts (is_first b) _ h).0, (and_parts (is_first b) (list_all is_name_byte t) h).1) refl)
+part-no-at (b ∷ t) h =
+    let first : is_name_byte b ≡ true = rw (and_parts (is_first b) (list_all is_name_byte t) h).0 refl in
+    plain-no-at (b ∷ t) (rw (first, (and_parts (is_first b) (list_all is_name_byte t) h).1) refl)
 
 append-no-at : (s t : List ℕ) → has_at s ≡ false → has_at t ≡ false → has_at (s ++ t) ≡ false
 append-no-at [] t h k = k

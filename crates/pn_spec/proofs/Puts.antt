@@ -15,6 +15,7 @@ use Rattle.std.proofs.lemmas.List.{drop_all, drop_more, set_split, take_more}
 use Rattle.std.proofs.lemmas.List.Elements.{All-from_recursion, All-nil, recursion_from_All}
 use Rattle.std.proofs.lemmas.Map.Lookups.{exact_bytes}
 use Rattle.std.proofs.lemmas.Map.Text.{is_eq-slice_cmp}
+use Rattle.std.proofs.lemmas.Slice.Eq.{bytes_eq-Decides}
 use Rattle.pn_spec.specs.declared.entry.CatalogEntry.{CatalogEntry}
 use Rattle.pn_spec.specs.Entries.{AreCatalogs, IsRead, PutLaw, by_order, entry_cmp, is_at, put_in, spec_at}
 
@@ -59,17 +60,9 @@ tied-at x e c n h =
     ap (λ y. bytes_eq y c && bytes_eq x.name n) (exact_bytes x.catalog e.catalog both.0)
     ∙ ap (λ y. bytes_eq e.catalog c && bytes_eq y n) (exact_bytes x.name e.name both.1)
 
-eq-is : (o : Ordering) → is_eq o ≡ true → o ≡ Equal
-eq-is Less h = cc h
-eq-is Equal h = refl
-eq-is Greater h = cc h
-
-same-bytes : (xs ys : List ℕ) → bytes_eq xs ys ≡ true → xs ≡ ys
-same-bytes xs ys h = exact_bytes xs ys (eq-is (slice_cmp nat_cmp xs ys) (is_eq-slice_cmp xs ys ∙ h))
-
 same-cmp : (xs ys zs : List ℕ) → bytes_eq xs zs ≡ true → bytes_eq ys zs ≡ true → slice_cmp nat_cmp xs ys ≡ Equal
 same-cmp xs ys zs h k =
-    subst (λ y. slice_cmp nat_cmp xs y ≡ Equal) (same-bytes xs zs h ∙ sym (same-bytes ys zs k)) (tied_itself nat_list_cmp_total xs)
+    subst (λ y. slice_cmp nat_cmp xs y ≡ Equal) ((bytes_eq-Decides xs zs).0 h ∙ sym ((bytes_eq-Decides ys zs).0 k)) (tied_itself nat_list_cmp_total xs)
 
 one-place : (x e : CatalogEntry) (c n : List ℕ) → is_at c n x ≡ true → is_at c n e ≡ true → entry_cmp x e ≡ Equal
 one-place x e c n h k =
