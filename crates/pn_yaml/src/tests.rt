@@ -237,7 +237,7 @@ fn print_map(alloc: Global, node: &Node) -> Result<Vec<u8>, Fail>
 
 // What is printed of the map that a text says.
 fn printed(alloc: Global, text: &str) -> Result<Vec<u8>, Fail> {
-    if text.len() > 65_536 {
+    if text.len() > u32::MAX as usize {
         return Err("too long")?;
     }
     match read(alloc, text.as_bytes()) {
@@ -294,12 +294,16 @@ const FAULTS: [(&str, YamlFault); 36] = [
     ("a:\n b:\n  c: [[[[[[[[[[[[[[[[[[[[[[[[[[[[[[[[[[[[[[[[[[[[[[[[[[[[[[[[[[[[[x]]]]]]]]]]]]]]]]]]]]]]]]]]]]]]]]]]]]]]]]]]]]]]]]]]]]]]]]]]]]]", YamlFault::TooDeep),
 ];
 
+fn fault(alloc: Global, text: &str) -> Option<YamlFault> {
+    if text.len() > u32::MAX as usize {
+        return None;
+    }
+    read(alloc, text.as_bytes()).err()
+}
+
 #[test]
 fn the_first_fault_is_told(rt: HostRuntime) {
     for (text, wanted) in FAULTS {
-        if text.len() < 65_536 {
-            let found = read(rt.alloc(), text.as_bytes()).err();
-            assert!(rt; found == Some(wanted), "{text}");
-        }
+        assert!(rt; fault(rt.alloc(), text) == Some(wanted), "{text}");
     }
 }
