@@ -4,7 +4,7 @@ use Rattle.pn_fs.specs.Tree.{file}
 use Rattle.pn_fs.specs.Pieces.{IsPiece}
 use Rattle.pn_text.proofs.Results.{for_some, if_some}
 use Rattle.pn_fs.proofs.SeenLemmas.{keeps_on, and_bytes, and_nothing}
-use Rattle.pn_read.proofs.Fronts.{IsFront, grown_front, whole_front}
+use Rattle.pn_read.proofs.FrontLemmas.{IsFront, grown_front, whole_front}
 use Rattle.pn_read.proofs.pieces.read_file.Goals as goal
 
 pub returns-then-count-eq0-clause-bytes : goal.returns-then-count-eq0-clause-bytes

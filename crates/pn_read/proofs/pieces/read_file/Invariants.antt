@@ -1,7 +1,7 @@
 use Rattle.std.proofs.Common.{◌≡◌, ◌≤◌, ◌-◌, ◌+◌, vec_len, length}
 use Rattle.std.specs.Option.{ForSome}
 use Rattle.pn_fs.specs.Seen.{Keeps, GaveAtMost}
-use Rattle.pn_read.proofs.Fronts.{IsFront}
+use Rattle.pn_read.proofs.FrontLemmas.{IsFront}
 use Rattle.pn_read.proofs.pieces.read_file.Given as goal
 
 abbrev pub invariant-loop-count : goal.invariant-loop-count
