@@ -3,7 +3,7 @@ import { spawnSync } from 'node:child_process';
 import { dirname, join, resolve } from 'node:path';
 import { fileURLToPath } from 'node:url';
 
-export const top = dirname(dirname(fileURLToPath(import.meta.url)));
+export const top = dirname(dirname(dirname(fileURLToPath(import.meta.url))));
 
 // The path of the program that the command line names, from any folder; undefined where it names none.
 export const named = process.argv[2] === undefined ? undefined : resolve(process.argv[2]);
@@ -25,36 +25,21 @@ export const run = (file, words, options = {}) => {
   return { status: ended.status, out: ended.stdout ?? '', err: ended.stderr };
 };
 
-// The path of a program of this repository, which is built first where it isn't yet or a source is newer; undefined
-// where that wants the kit's command and it is missing.
+// The path of a program of this repository: the shipped one, or one that is built first.
 export const built = (name) => {
   const { status, out, err } = run(join(top, 'tools', 'built.sh'), [name]);
-  if (status === 127) return undefined;
   if (status !== 0) throw new Error(`${name} can't be built: ${err.trim()}`);
   return out.slice(0, -1);
 };
 
-// Has the program built that is checked, where the command line names none.
-export const build = () => {
-  if (named === undefined && built('pnpm_rs') === undefined) throw new Error("the kit's command rt is missing");
-};
-
-// Asks a program lines `<folder><tab><name>`, and answers the lines that it gives.
-export const ask = (file, words, questions, env) => {
-  const input = questions.map(([folder, name]) => `${folder}\t${name}\n`).join('');
-  const ended = run(file, words, { input, env });
+// Asks a program lines, and answers the lines that it gives.
+export const ask = (file, words, lines, env) => {
+  const ended = run(file, words, { input: lines.map((line) => `${line}\n`).join(''), env });
   if (ended.status !== 0) throw new Error(`${file} ended with ${ended.status}: ${ended.err.trim()}`);
   const answers = ended.out.split('\n').slice(0, -1);
-  if (answers.length === questions.length) return answers;
-  throw new Error(`${file} gave ${answers.length} answers to ${questions.length} questions`);
+  if (answers.length === lines.length) return answers;
+  throw new Error(`${file} gave ${answers.length} answers to ${lines.length} questions`);
 };
 
 // What an install reports on standard output.
 export const report = (packages) => `projects 1\npackages ${packages.length}\ninstances ${packages.length}\n`;
-
-// Ends the check: status 1 where there are differences, each told in a line.
-export const finish = (check, problems) => {
-  for (const line of problems.slice(0, 50)) console.log(`  differs: ${line}`);
-  console.log(`${check}: ${problems.length} differences`);
-  process.exitCode = problems.length === 0 ? 0 : 1;
-};

@@ -5,7 +5,7 @@ import { edgesOf, homeOf, inModules, readManifest } from './packages.mjs';
 import { ask, built, top } from './program.mjs';
 import { entriesOf, put, temporary } from './trees.mjs';
 
-const askNode = join(top, 'tools', 'ask-node.mjs');
+const askNode = join(top, 'tools', 'lib', 'ask-node.mjs');
 
 // The folder and the folders below it, those in its `node_modules` aside.
 const foldersAt = (folder) => {
@@ -32,19 +32,19 @@ export const questionsOf = (project, packages, names) => {
   return [...own, ...packages.flatMap((one) => packageQuestions(project, names, direct, one))];
 };
 
-const pairs = (questions) => questions.map(({ folder, name }) => [folder, name]);
+const linesOf = (questions) => questions.map(({ folder, name }) => `${folder}\t${name}`);
 
-const byNode = (questions, words = []) => ask(process.execPath, [askNode, ...words], pairs(questions), { HOME: '/' });
+const byNode = (questions, words = []) => ask(process.execPath, [askNode, ...words], linesOf(questions), { HOME: '/' });
 
 const compareAnswers = (who, questions, answers, wanted) =>
   questions.flatMap(({ folder, name }, i) =>
     answers[i] === wanted[i] ? [] : [`${who} finds ${answers[i]} by ${name} from ${folder}, not ${wanted[i]}`]);
 
-// Where Node, or find_check where it is given, finds something else than the manifests say.
+// Where Node or find_check finds something else than the manifests say.
 export const compareLookup = (questions, findCheck) => {
   const wanted = questions.map(({ means }) => means);
   const problems = compareAnswers('node', questions, byNode(questions), wanted);
-  if (findCheck !== undefined) problems.push(...compareAnswers('find_check', questions, ask(findCheck, [], pairs(questions)), wanted));
+  problems.push(...compareAnswers('find_check', questions, ask(findCheck, [], linesOf(questions)), wanted));
   if (!wanted.some((one) => one !== '-')) problems.push('no lookup has to find a package');
   return problems;
 };
@@ -92,8 +92,6 @@ export const compareOdd = (findCheck) => {
   const questions = questionsAt(folders, oddNames, new Map());
   const wanted = byNode(questions);
   const found = wanted.filter((one) => one !== '-').length;
-  console.log(`an odd tree: ${questions.length} lookups, ${found} of which find something`);
-  const problems = compareAnswers('find_check', questions, ask(findCheck, [], pairs(questions)), wanted);
-  if (found === 0) problems.push('no lookup in the odd tree finds something');
-  return problems;
+  const problems = compareAnswers('find_check', questions, ask(findCheck, [], linesOf(questions)), wanted);
+  return { compared: found, what: `${questions.length} lookups, ${found} of which find something`, problems };
 };
