@@ -11,3 +11,4 @@ pub mod Refusals
 pub mod Clean
 pub mod Above
 pub mod Keeping
+pub mod ShortFiles
