@@ -13,3 +13,4 @@ pub mod Above
 pub mod Keeping
 pub mod Distinct
 pub mod FilesLawLemmas
+pub mod ShortFiles

@@ -9,7 +9,7 @@ use Rattle.pn_text.specs.Causes.{Rose}
 use Rattle.pn_fs.specs.Tree.{Tree}
 use Rattle.pn_fs.specs.Seen.{Seen}
 use Rattle.pn_read.specs.Small.{IsFileOf}
-use Rattle.pn_registry.specs.Files.{File, file_limit}
+use Rattle.pn_registry.specs.Files.{File, file_limit, IsShortBelow}
 use Rattle.pn_registry.specs.Below.{HasFew, HasMany}
 use Rattle.pn_registry.specs.declared.contents.FilesFault.{FilesFault}
 use Rattle.pn_registry.specs.declared.contents.FilesFault.TheVariants.{Modules, TooLarge, Entries, Fault, Memory}
@@ -96,3 +96,11 @@ IsNamed files (TooLarge q n) = (find is_modular files ≡ None) × (find is_larg
 IsNamed files Entries = ⊥
 IsNamed files Fault = ⊥
 IsNamed files Memory = Unit {0}
+
+-- the path of the file that is named isn't too long for one
+abbrev pub NamesShort : Path → FilesFault → Type 0
+NamesShort at (Modules q) = IsShortBelow at (q, 0)
+NamesShort at (TooLarge q n) = IsShortBelow at (q, n)
+NamesShort at Entries = Unit {0}
+NamesShort at Fault = Unit {0}
+NamesShort at Memory = Unit {0}
