@@ -6,12 +6,11 @@ use Rattle.pn_text.specs.Faults.{BeginsWithNoSlash, HasBadAbsPart, AbsFault}
 use Rattle.pn_text.specs.declared.fault.PathFault.{PathFault}
 use Rattle.pn_text.specs.declared.fault.PathFault.TheVariants.{NotAbsolute, BadPart}
 use Rattle.pn_text.proofs.Paths.{and_left, and_right, not_true, parts_from-append, parts_from-flat, parts_from-text_below, spells_one}
-use Rattle.pn_text.proofs.Joins.{if_ok}
-use Rattle.pn_plan.proofs.Climbing.{begins}
+use Rattle.pn_text.proofs.Joins.{if_ok, below_begins}
 
 pub slash_first : (text : List ℕ) (q : Path) → SpellsAbs text q → BeginsWithNoSlash text → ⊥
 slash_first text [] s h = subst BeginsWithNoSlash s.spelled h refl
-slash_first text (x ∷ q) s h = let b = begins x q in subst BeginsWithNoSlash (s.spelled ∙ b.1) h refl
+slash_first text (x ∷ q) s h = let b = below_begins x q in subst BeginsWithNoSlash (s.spelled ∙ b.1) h refl
 
 -- the parts that are read stay, whatever comes
 parts_stay : (bs : List ℕ) (y : List ℕ) (r : Path) → (u : Path) × (parts_from (y ∷ r) bs ≡ u ++ r)
