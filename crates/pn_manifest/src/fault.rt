@@ -5,12 +5,19 @@ ghost use Rattle.pn_manifest.specs.Refusals.{IsWrong};
 use pn_text::{Memory, Text};
 use std::alloc::{AllocFailed, Global};
 
-/// Why bytes are no manifest: no JSON object, a wrong field and the key in it (empty where the field
-/// itself is wrong), or no memory.
+/// What is wrong with a manifest: no file where one is asked for, no JSON object, or a field and a key in
+/// it (empty where the field itself is wrong).
 #[derive(Drop)]
-pub enum ManifestFault {
+pub enum ManifestWhy {
+    Missing,
     NotJson,
     BadField(Text, Text),
+}
+
+/// Why bytes are no manifest: what is wrong with them, or no memory.
+#[derive(Drop)]
+pub enum ManifestFault {
+    Wrong(ManifestWhy),
     Memory,
 }
 
@@ -19,7 +26,7 @@ pub fn bad_field(alloc: Global, field: &str, key: &str) -> ManifestFault
     ensures { IsWrong (Some (field.now, key.now)) result }
 {
     match (Text::of(alloc, field), Text::of(alloc, key)) {
-        (Ok(field), Ok(key)) => ManifestFault::BadField(field, key),
+        (Ok(field), Ok(key)) => ManifestFault::Wrong(ManifestWhy::BadField(field, key)),
         _ => ManifestFault::Memory,
     }
 }

@@ -13,5 +13,5 @@ mod object;
 
 pub use dependencies::{Dependencies, Dependency};
 pub use exact::{ExactId, is_exact_version};
-pub use fault::ManifestFault;
+pub use fault::{ManifestFault, ManifestWhy};
 pub use manifest::Manifest;

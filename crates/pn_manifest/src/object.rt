@@ -7,7 +7,7 @@ ghost use Rattle.pn_manifest.specs.Fields.{field, is_version, name_of, version_o
 ghost use Rattle.pn_manifest.specs.Text.{IsObjectText};
 ghost use Rattle.pn_manifest.specs.Refusals.{IsNoObject, IsWrong};
 
-use crate::fault::{ManifestFault, bad_field};
+use crate::fault::{ManifestFault, ManifestWhy, bad_field};
 use crate::fields::{field, is_filled};
 use pn_text::{NameFault, PkgName, Text};
 use semver::Version;
@@ -20,13 +20,13 @@ pub fn read_object(alloc: Global, bytes: &[u8]) -> Result<Value, ManifestFault>
     ensures fault { IfErr result (IsNoObject bytes.now) }
 {
     let Ok(text) = std::str::from_utf8(bytes) else {
-        return Err(ManifestFault::NotJson);
+        return Err(ManifestFault::Wrong(ManifestWhy::NotJson));
     };
     match Value::from_str(alloc, text) {
         Ok(value) if value.is_object() => Ok(value),
-        Ok(_) => Err(ManifestFault::NotJson),
+        Ok(_) => Err(ManifestFault::Wrong(ManifestWhy::NotJson)),
         Err(e) if e.is_memory() => Err(ManifestFault::Memory),
-        Err(_) => Err(ManifestFault::NotJson),
+        Err(_) => Err(ManifestFault::Wrong(ManifestWhy::NotJson)),
     }
 }
 
