@@ -10,7 +10,7 @@ ghost use Rattle.pn_registry.specs.PackageFaults.{PackageRefused, TextRefused, I
 
 use crate::folder::manifest_path;
 use pn_fs::ReadFs;
-use pn_manifest::{ExactId, Manifest, ManifestFault};
+use pn_manifest::{ExactId, Manifest, ManifestFault, ManifestWhy};
 use pn_read::{SmallFault, read_small};
 use pn_text::{AbsPath, Memory, Text};
 use semver::Version;
@@ -18,15 +18,13 @@ use std::alloc::Global;
 
 const TEXT_LIMIT: u64 = 16777216;
 
-/// Why a package has no manifest: no file `package.json`, a file of so many bytes, past 16,777,216; no
-/// JSON object; a wrong field and key, or `name` or `version` where it states another one or none; a
-/// failed call; no memory.
+/// Why a package has no manifest: what is wrong with its `package.json`, where `name` and `version` are wrong
+/// fields too if they state another one or none; a file of so many bytes, past 16,777,216; a failed call; no
+/// memory.
 #[derive(Drop)]
 pub enum PackageFault {
-    Missing,
+    Wrong(ManifestWhy),
     TooLarge(u64),
-    NotJson,
-    BadField(Text, Text),
     Fault,
     Memory,
 }
@@ -44,7 +42,7 @@ pub fn manifest<R: ReadFs>(
 {
     match manifest_path(alloc, id) {
         Ok(Some(path)) => read_at(alloc, reg, id, &path),
-        Ok(None) => Err(PackageFault::Missing),
+        Ok(None) => Err(PackageFault::Wrong(ManifestWhy::Missing)),
         Err(_) => Err(PackageFault::Memory),
     }
 }
@@ -63,7 +61,7 @@ fn read_at<R: ReadFs>(
 {
     match read_small(alloc, reg, path, TEXT_LIMIT) {
         Ok(bytes) => parse(alloc, id, bytes.as_slice()),
-        Err(SmallFault::Missing) => Err(PackageFault::Missing),
+        Err(SmallFault::Missing) => Err(PackageFault::Wrong(ManifestWhy::Missing)),
         Err(SmallFault::TooLarge(length)) => Err(PackageFault::TooLarge(length)),
         Err(SmallFault::Fault) => Err(PackageFault::Fault),
         Err(SmallFault::Memory) => Err(PackageFault::Memory),
@@ -80,8 +78,7 @@ fn parse(alloc: Global, id: &ExactId, bytes: &[u8]) -> Result<Manifest, PackageF
             Ok(()) => Ok(manifest),
             Err(fault) => Err(fault),
         },
-        Err(ManifestFault::NotJson) => Err(PackageFault::NotJson),
-        Err(ManifestFault::BadField(field, key)) => Err(PackageFault::BadField(field, key)),
+        Err(ManifestFault::Wrong(why)) => Err(PackageFault::Wrong(why)),
         Err(ManifestFault::Memory) => Err(PackageFault::Memory),
     }
 }
@@ -118,7 +115,7 @@ fn bad_field(alloc: Global, field: &str) -> PackageFault
     ensures { IsOther (Some (field.now, [])) result }
 {
     match (Text::of(alloc, field), Text::of(alloc, "")) {
-        (Ok(field), Ok(key)) => PackageFault::BadField(field, key),
+        (Ok(field), Ok(key)) => PackageFault::Wrong(ManifestWhy::BadField(field, key)),
         _ => PackageFault::Memory,
     }
 }

@@ -2,7 +2,7 @@
 
 use crate::{Files, FilesFault, PackageFault, PackageFile, files, manifest, stands};
 use pn_fs::{Body, SureFs, try_make};
-use pn_manifest::ExactId;
+use pn_manifest::{ExactId, ManifestWhy};
 use pn_text::{AbsPath, PkgName, Text};
 use std::alloc::Global;
 use std::test::Fail;
@@ -108,8 +108,8 @@ fn wrong(alloc: Global, version: &str) -> Result<String, Fail> {
     };
     let text = match manifest(alloc, &mut fs, &id) {
         Ok(_) => "nothing",
-        Err(PackageFault::Missing) => "missing",
-        Err(PackageFault::BadField(field, _)) => return Ok(String::from_str(
+        Err(PackageFault::Wrong(ManifestWhy::Missing)) => "missing",
+        Err(PackageFault::Wrong(ManifestWhy::BadField(field, _))) => return Ok(String::from_str(
             alloc,
             field.as_str(),
         )?),
