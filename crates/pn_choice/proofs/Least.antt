@@ -11,6 +11,7 @@ use Rattle.pn_manifest.specs.Pairs.{Pair}
 use Rattle.pn_manifest.specs.Fields.{edges_of}
 use Rattle.pn_registry.specs.Places.{manifest_path}
 use Rattle.pn_registry.specs.Package.{IsText}
+use Rattle.pn_registry.proofs.ManifestLawLemmas.{text_once}
 use Rattle.pn_choice.specs.Edges.{id_of, id_text, target, targets, edge_of, edges_from, package_edges, edges_in, all_edges}
 use Rattle.pn_choice.specs.Firsts.{same_id, without, firsts, IsDistinct}
 use Rattle.pn_choice.specs.Found.{IsPackage}
@@ -18,7 +19,7 @@ use Rattle.pn_choice.specs.Walked.{Walked}
 use Rattle.pn_choice.specs.Reaches.{Reaches, direct, through, pair_id, ReachLaw}
 use Rattle.pn_choice.specs.declared.package.Package.{Package}
 use Rattle.pn_choice.proofs.Once.{same_id-is, same_id-refl}
-use Rattle.pn_choice.proofs.Sequences.{IsMet, met_reached, next_id, text_once}
+use Rattle.pn_choice.proofs.Sequences.{IsMet, met_reached, next_id}
 
 -- each first is one of the list
 firsts_from : (xs : List Id) → All (Contains xs) (firsts xs)

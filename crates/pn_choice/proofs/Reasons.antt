@@ -4,37 +4,19 @@ use Rattle.std.specs.List.{All}
 use Rattle.std.proofs.lemmas.List.Elements.{All-map, All-weaker}
 use Rattle.serde_json.specs.Data.{Data}
 use Rattle.pn_text.specs.declared.ids.Edge.{Edge}
-use Rattle.pn_fs.specs.Tree.{Tree, Entry, file}
+use Rattle.pn_fs.specs.Tree.{Tree}
 use Rattle.pn_manifest.specs.Exact.{Id, is_exact}
-use Rattle.pn_manifest.specs.Fields.{Spot, first_later}
-use Rattle.pn_manifest.specs.Text.{IsObjectText}
+use Rattle.pn_manifest.specs.Fields.{first_later}
+use Rattle.pn_manifest.specs.declared.fault.ManifestWhy.{ManifestWhy}
 use Rattle.pn_registry.specs.Places.{manifest_path}
-use Rattle.pn_registry.specs.Package.{first_wrong_of, IsText, text_limit}
-use Rattle.pn_registry.specs.PackageFaults.{IsNoText}
-use Rattle.pn_read.specs.Small.{IsFileOf}
+use Rattle.pn_registry.specs.Package.{first_wrong_of}
 use Rattle.pn_choice.specs.Edges.{id_of, id_text, target}
 use Rattle.pn_choice.specs.Found.{HasFolder, HasManifest, IsPackage, IsNoManifest, NoPackage, NotBuilt}
 use Rattle.pn_choice.specs.Refusals.{IsFull, EdgeRefused}
 use Rattle.pn_choice.specs.declared.package.Package.{Package}
-use Rattle.pn_choice.specs.declared.fault.PackageWhy.{PackageWhy}
-use Rattle.pn_choice.specs.declared.fault.PackageWhy.TheVariants.{Missing, NotJson, BadField}
 use Rattle.pn_choice.specs.declared.fault.ReachFault.{ReachFault}
 use Rattle.pn_choice.specs.declared.fault.ReachFault.TheVariants.{NotYet, NoVersion, TextLimit, Manifest, Packages, Fault, Memory}
-use Rattle.pn_choice.proofs.Sequences.{text_once}
-
-file_once : (e : Option Entry) (x y : List ℕ) → e ≡ Some (file x) → e ≡ Some (file y) → x ≡ y
-file_once e x y a b = cc
-
--- a file with a text isn't too long
-not_long : (e : Option Entry) (d : Data) (n : ℕ) → IsText e d → text_limit < n → IsFileOf n e → ⊥
-not_long e d n text long f =
-    let bytes = file_once e text.bytes f.0 text.is f.1 in
-    absurd (omega (arith, long, f.2, ap length bytes, text.short))
-
-not_unreadable : (e : Option Entry) (d : Data) → IsText e d → IsNoText e → ⊥
-not_unreadable e d text h =
-    let bytes = file_once e text.bytes h.bytes text.is h.is in
-    h.none d (subst (λ (b : List ℕ). IsObjectText b d) bytes text.text)
+use Rattle.pn_registry.proofs.ManifestLawLemmas.{text_once, not_long, not_wrong, one_wrong, long_there, one_length}
 
 none_some : {A : Type 0} (o : Option A) (x : A) → o ≡ None → o ≡ Some x → ⊥
 none_some o x a b = cc
@@ -43,12 +25,8 @@ true_false : (b : Bool) → b ≡ true → b ≡ false → ⊥
 true_false b x y = cc
 
 -- a right manifest is there
-right_there : (t : Tree) (i : Id) (d : Data) (why : PackageWhy) → HasManifest (Some t) i d → IsNoManifest (Some t) i why → ⊥
-right_there t i d Missing m h = h m.text.bytes m.text.is
-right_there t i d NotJson m h = not_unreadable (t (manifest_path i)) d m.text h
-right_there t i d (BadField f k) m h =
-    let value = text_once (t (manifest_path i)) d h.value m.text h.text in
-    none_some (first_wrong_of i h.value) (f, k) (ap (first_wrong_of i) (sym value) ∙ m.right) h.wrong
+right_there : (t : Tree) (i : Id) (d : Data) (why : ManifestWhy) → HasManifest (Some t) i d → IsNoManifest (Some t) i why → ⊥
+right_there t i d why m h = not_wrong i (t (manifest_path i)) d why m.text m.right h
 
 -- A package stands there whose manifest is right and built.
 pub record IsRight (t : Tree) (i : Id) : Type 0 where
@@ -108,34 +86,8 @@ one_unbuilt later i a b (inl x) (inr y) = absurd (none_some later a y.0 x)
 one_unbuilt later i a b (inr x) (inl y) = absurd (none_some later b x.0 y)
 one_unbuilt later i a b (inr x) (inr y) = x.2 ∙ sym y.2
 
-one_spot : (o : Option Spot) (a b : Spot) → o ≡ Some a → o ≡ Some b → BadField a.0 a.1 ≡ BadField b.0 b.1
-one_spot o a b x y =
-    let same : a ≡ b = cc in
-    ap (λ (s : Spot). BadField s.0 s.1) same
-
-one_why : (t : Tree) (i : Id) (v w : PackageWhy) → IsNoManifest (Some t) i v → IsNoManifest (Some t) i w → v ≡ w
-one_why t i Missing Missing x y = refl
-one_why t i Missing NotJson x y = absurd (x y.bytes y.is)
-one_why t i Missing (BadField g l) x y = absurd (x y.text.bytes y.text.is)
-one_why t i NotJson Missing x y = absurd (y x.bytes x.is)
-one_why t i NotJson NotJson x y = refl
-one_why t i NotJson (BadField g l) x y = absurd (not_unreadable (t (manifest_path i)) y.value y.text x)
-one_why t i (BadField f k) Missing x y = absurd (y x.text.bytes x.text.is)
-one_why t i (BadField f k) NotJson x y = absurd (not_unreadable (t (manifest_path i)) x.value x.text y)
-one_why t i (BadField f k) (BadField g l) x y =
-    let value = text_once (t (manifest_path i)) x.value y.value x.text y.text in
-    one_spot (first_wrong_of i y.value) (f, k) (g, l) (ap (first_wrong_of i) (sym value) ∙ x.wrong) y.wrong
-
--- a file that is too long has no text that could be wrong
-long_there : (t : Tree) (i : Id) (n : ℕ) (w : PackageWhy) → text_limit < n → IsFileOf n (t (manifest_path i)) → IsNoManifest (Some t) i w → ⊥
-long_there t i n Missing long f h = h f.0 f.1
-long_there t i n NotJson long f h =
-    let bytes = file_once (t (manifest_path i)) h.bytes f.0 h.is f.1 in
-    absurd (omega (arith, long, f.2, ap length bytes, h.short))
-long_there t i n (BadField g l) long f h = not_long (t (manifest_path i)) h.value n h.text long f
-
 -- what is said of an id holds at an edge to it
-at_target : (t : Tree) (e : Edge) (id : Id) (w : PackageWhy) → id ≡ target e → IsNoManifest (Some t) id w → IsNoManifest (Some t) (target e) w
+at_target : (t : Tree) (e : Edge) (id : Id) (w : ManifestWhy) → id ≡ target e → IsNoManifest (Some t) id w → IsNoManifest (Some t) (target e) w
 at_target t e id w is h = subst (λ (i : Id). IsNoManifest (Some t) i w) is h
 
 one_reason : (t : Tree) (e : Edge) (f g : ReachFault) → NoPackage (Some t) e f → NoPackage (Some t) e g → f ≡ g
@@ -151,13 +103,13 @@ one_reason t e (NoVersion at) (TextLimit n) x y = absurd (x.1 y.0)
 one_reason t e (NoVersion at) (Manifest id w) x y = absurd (x.1 (subst (HasFolder (Some t)) y.0 y.1))
 one_reason t e (TextLimit n) (NotYet b) x y = absurd (not_long (t (manifest_path (target e))) y.0 n y.1.text x.1 x.2)
 one_reason t e (TextLimit n) (NoVersion bt) x y = absurd (y.1 x.0)
-one_reason t e (TextLimit n) (TextLimit m) x y = ap TextLimit (x.2.2 ∙ ap length (file_once (t (manifest_path (target e))) x.2.0 y.2.0 x.2.1 y.2.1) ∙ sym y.2.2)
-one_reason t e (TextLimit n) (Manifest id w) x y = absurd (long_there t (target e) n w x.1 x.2 (at_target t e id w y.0 y.2))
+one_reason t e (TextLimit n) (TextLimit m) x y = ap TextLimit (one_length (t (manifest_path (target e))) n m x.2 y.2)
+one_reason t e (TextLimit n) (Manifest id w) x y = absurd (long_there (target e) (t (manifest_path (target e))) n w x.1 x.2 (at_target t e id w y.0 y.2))
 one_reason t e (Manifest id w) (NotYet b) x y = absurd (right_there t (target e) y.0 w y.1 (at_target t e id w x.0 x.2))
 one_reason t e (Manifest id w) (NoVersion bt) x y = absurd (y.1 (subst (HasFolder (Some t)) x.0 x.1))
-one_reason t e (Manifest id w) (TextLimit n) x y = absurd (long_there t (target e) n w y.1 y.2 (at_target t e id w x.0 x.2))
+one_reason t e (Manifest id w) (TextLimit n) x y = absurd (long_there (target e) (t (manifest_path (target e))) n w y.1 y.2 (at_target t e id w x.0 x.2))
 one_reason t e (Manifest id v) (Manifest other w) x y =
-    let whys = one_why t (target e) v w (at_target t e id v x.0 x.2) (at_target t e other w y.0 y.2) in
+    let whys = one_wrong (target e) (t (manifest_path (target e))) v w (at_target t e id v x.0 x.2) (at_target t e other w y.0 y.2) in
     ap (λ (i : Id). Manifest i v) (x.0 ∙ sym y.0) ∙ ap (Manifest other) whys
 one_reason t e (Packages n) g x y = absurd x
 one_reason t e Fault g x y = absurd x

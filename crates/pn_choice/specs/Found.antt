@@ -3,17 +3,16 @@ use Rattle.std.specs.Prelude.{◌≡◌, ◌≢◌, ◌≤◌, ◌<◌, ◌⊎�
 use Rattle.serde_json.specs.Data.{Data}
 use Rattle.pn_text.specs.declared.ids.Edge.{Edge}
 use Rattle.pn_fs.specs.Tree.{Tree, folder}
-use Rattle.pn_read.specs.Small.{IsNoFile, IsFileOf}
+use Rattle.pn_read.specs.Small.{IsFileOf}
 use Rattle.pn_manifest.specs.Exact.{Id, is_exact}
 use Rattle.pn_manifest.specs.Pairs.{Pair}
 use Rattle.pn_manifest.specs.Fields.{first_later, edges_of}
+use Rattle.pn_manifest.specs.declared.fault.ManifestWhy.{ManifestWhy}
 use Rattle.pn_registry.specs.Places.{package_folder, manifest_path}
 use Rattle.pn_registry.specs.Package.{text_limit, first_wrong_of, IsText}
-use Rattle.pn_registry.specs.PackageFaults.{IsNoText, IsWrongText}
+use Rattle.pn_registry.specs.PackageFaults.{WrongFile}
 use Rattle.pn_choice.specs.Edges.{id_text, target}
 use Rattle.pn_choice.specs.declared.package.Package.{Package}
-use Rattle.pn_choice.specs.declared.fault.PackageWhy.{PackageWhy}
-use Rattle.pn_choice.specs.declared.fault.PackageWhy.TheVariants.{Missing, NotJson, BadField}
 use Rattle.pn_choice.specs.declared.fault.ReachFault.{ReachFault}
 use Rattle.pn_choice.specs.declared.fault.ReachFault.TheVariants.{NotYet, NoVersion, TextLimit, Manifest, Packages, Fault, Memory}
 
@@ -39,11 +38,9 @@ pub record IsPackage (r : Option Tree) (p : Package) : Type 0 where
   pub exact : is_exact p.id.version ≡ true
   pub short : length (id_text p.id) ≤ 120
 
--- the file at a package's manifest is none, or has no right text
-abbrev pub IsNoManifest : Option Tree → Id → PackageWhy → Type 0
-IsNoManifest r id Missing = IfSome r (λ t. IsNoFile (t (manifest_path id)))
-IsNoManifest r id NotJson = IfSome r (λ t. IsNoText (t (manifest_path id)))
-IsNoManifest r id (BadField f k) = IfSome r (λ t. IsWrongText id (t (manifest_path id)) f k)
+-- something is wrong with the file at a package's manifest
+abbrev pub IsNoManifest : Option Tree → Id → ManifestWhy → Type 0
+IsNoManifest r id why = IfSome r (λ t. WrongFile id (t (manifest_path id)) why)
 
 -- A field stands that isn't built yet, or the id is too long; the text shows it.
 abbrev pub NotBuilt : Option (List ℕ) → Id → List ℕ → Type 0
@@ -96,7 +93,7 @@ IsNoVersion e (Packages n) = ⊥
 IsNoVersion e Fault = ⊥
 IsNoVersion e Memory = Unit {0}
 
-abbrev pub IsWrong : Id → PackageWhy → ReachFault → Type 0
+abbrev pub IsWrong : Id → ManifestWhy → ReachFault → Type 0
 IsWrong id why (NotYet t) = ⊥
 IsWrong id why (NoVersion at) = ⊥
 IsWrong id why (TextLimit n) = ⊥

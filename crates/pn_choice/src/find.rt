@@ -7,10 +7,10 @@ ghost use Rattle.pn_choice.specs.Edges.{id_text, edge_to};
 ghost use Rattle.pn_choice.specs.Found.{HasFolder, IsPackage, NoPackage, IsBuilt, IsUnbuilt, IsNotYet, IsNoVersion, IsWrong};
 ghost use Rattle.pn_choice.specs.Refusals.{Refuses};
 
-use crate::fault::{PackageWhy, ReachFault};
+use crate::fault::ReachFault;
 use crate::package::Package;
 use pn_fs::ReadFs;
-use pn_manifest::{ExactId, Manifest};
+use pn_manifest::{ExactId, Manifest, ManifestWhy};
 use pn_registry::{PackageFault, manifest, stands};
 use pn_text::{DevFault, Edge, Text};
 use std::alloc::Global;
@@ -45,11 +45,7 @@ fn read<R: ReadFs>(alloc: Global, registry: &mut R, id: &ExactId) -> Result<Pack
 {
     match manifest(alloc, registry, id) {
         Ok(manifest) => package(alloc, id, &manifest),
-        Err(PackageFault::Missing) => Err(wrong(alloc, id, PackageWhy::Missing)),
-        Err(PackageFault::NotJson) => Err(wrong(alloc, id, PackageWhy::NotJson)),
-        Err(PackageFault::BadField(field, key)) => {
-            Err(wrong(alloc, id, PackageWhy::BadField(field, key)))
-        }
+        Err(PackageFault::Wrong(why)) => Err(wrong(alloc, id, why)),
         Err(PackageFault::TooLarge(length)) => Err(ReachFault::TextLimit(length)),
         Err(PackageFault::Fault) => Err(ReachFault::Fault),
         Err(PackageFault::Memory) => Err(ReachFault::Memory),
@@ -110,7 +106,7 @@ fn no_version(alloc: Global, from: &Text, id: &ExactId) -> ReachFault
     }
 }
 
-fn wrong(alloc: Global, id: &ExactId, why: PackageWhy) -> ReachFault
+fn wrong(alloc: Global, id: &ExactId, why: ManifestWhy) -> ReachFault
     ensures { IsWrong id.now why result }
 {
     match id.copy(alloc) {

@@ -15,7 +15,7 @@ mod project;
 mod reached;
 mod walk;
 
-pub use fault::{PackageWhy, ReachFault};
+pub use fault::ReachFault;
 pub use package::{Package, id_text};
 pub use project::{cause_law, edge_law, passed_law, reach, reach_law, same_law};
 pub use reached::Reached;

@@ -1,8 +1,8 @@
 // Answers over a registry in memory.
 
-use crate::{PackageWhy, ReachFault, Reached, id_text, reach};
+use crate::{ReachFault, Reached, id_text, reach};
 use pn_fs::{Body, SureFs, try_make};
-use pn_manifest::Manifest;
+use pn_manifest::{Manifest, ManifestWhy};
 use pn_text::AbsPath;
 use std::alloc::Global;
 use std::test::Fail;
@@ -85,7 +85,7 @@ fn told(alloc: Global, fault: &ReachFault) -> Result<String, Fail> {
             text.push_str("@")?;
             text.push_str(edge.specifier.as_str())?;
         }
-        ReachFault::Manifest(id, PackageWhy::BadField(field, _)) => {
+        ReachFault::Manifest(id, ManifestWhy::BadField(field, _)) => {
             text.push_str(id_text(alloc, id)?.as_str())?;
             text.push_str(" field ")?;
             text.push_str(field.as_str())?;
