@@ -1,6 +1,6 @@
 // Why the packages of a project aren't told.
-use pn_manifest::{ExactId, ManifestWhy};
-use pn_text::{Edge, Memory, Text};
+use pn_manifest::ManifestWhy;
+use pn_text::{Edge, Memory, PkgId, Text};
 use std::alloc::AllocFailed;
 
 /// Why the packages of a project aren't told: a specifier or a field that isn't built yet; no folder at an edge's
@@ -11,7 +11,7 @@ pub enum ReachFault {
     NotYet(Text),
     NoVersion(Edge),
     TextLimit(u64),
-    Manifest(ExactId, ManifestWhy),
+    Manifest(PkgId, ManifestWhy),
     Packages(u64),
     Fault,
     Memory,

@@ -16,7 +16,7 @@ mod reached;
 mod walk;
 
 pub use fault::ReachFault;
-pub use package::{Package, id_text};
+pub use package::Package;
 pub use project::{cause_law, edge_law, passed_law, reach, reach_law, same_law};
 pub use reached::Reached;
 

@@ -4,20 +4,26 @@ ghost use Rattle.pn_manifest.specs.Refusals.{IsWrong};
 
 use pn_text::{Memory, Text};
 use std::alloc::{AllocFailed, Global};
+use thiserror::Error;
 
 /// What is wrong with a manifest: no file where one is asked for, no JSON object, or a field and a key in
 /// it (empty where the field itself is wrong).
-#[derive(Drop)]
+#[derive(Debug, Drop, Error)]
 pub enum ManifestWhy {
+    #[error("there is no file")]
     Missing,
+    #[error("the text is no JSON object")]
     NotJson,
+    #[error("field {0}, key {1}: wrong")]
     BadField(Text, Text),
 }
 
 /// Why bytes are no manifest: what is wrong with them, or no memory.
-#[derive(Drop)]
+#[derive(Debug, Drop, Error)]
 pub enum ManifestFault {
+    #[error("{0}")]
     Wrong(ManifestWhy),
+    #[error("out of memory")]
     Memory,
 }
 

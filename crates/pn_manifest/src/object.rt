@@ -2,8 +2,9 @@
 ghost use Rattle.std.specs.Prelude.{◌≡◌, OnOk, IfOk, IfErr, None, option_map, codes, option_and_then};
 ghost use Rattle.serde_json.specs.View.{view};
 ghost use Rattle.semver.specs.Identifiers.{parts_of};
+ghost use Rattle.pn_text.specs.Ids.{is_version, parts_text};
 ghost use Rattle.pn_text.specs.Name.{is_name};
-ghost use Rattle.pn_manifest.specs.Fields.{field, is_version, name_of, version_of, wrong_text, first_later, parts_text};
+ghost use Rattle.pn_manifest.specs.Fields.{field, name_of, version_of, wrong_text, first_later};
 ghost use Rattle.pn_manifest.specs.Text.{IsObjectText};
 ghost use Rattle.pn_manifest.specs.Refusals.{IsNoObject, IsWrong};
 

@@ -2,11 +2,10 @@
 use Rattle.std.proofs.Common.{◌≡◌, ◌≤◌, ◌<◌, ℕ, List, Some, None, length, refl, sym, ap, ◌∙◌, subst, arith}
 use Rattle.std.specs.Prelude.{Option, option_map, option_and_then}
 use Rattle.serde_json.specs.Data.{Data}
-use Rattle.semver.specs.Identifiers.{parts_of}
 use Rattle.pn_fs.specs.Tree.{Tree, Entry, file}
 use Rattle.pn_read.specs.Small.{IsFileOf}
 use Rattle.pn_manifest.specs.Exact.{Id}
-use Rattle.pn_manifest.specs.Fields.{Spot, version_of, parts_text}
+use Rattle.pn_manifest.specs.Fields.{Spot}
 use Rattle.pn_manifest.specs.Says.{Says, IsSame}
 use Rattle.pn_manifest.specs.Text.{IsObjectText}
 use Rattle.pn_manifest.specs.declared.fault.ManifestWhy.{ManifestWhy}

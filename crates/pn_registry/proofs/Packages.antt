@@ -7,12 +7,13 @@ use Rattle.semver.specs.Parse.{Parts, version_parts}
 use Rattle.semver.specs.Identifiers.{parts_of}
 use Rattle.semver.specs.declared.error.Error.{Error}
 use Rattle.semver.proofs.Grammar.{version_parts-sound}
+use Rattle.pn_text.specs.Ids.{id_name, id_version, ok_of, parts_text, is_version}
 use Rattle.pn_text.specs.Path.{Path}
 use Rattle.pn_text.specs.Name.{is_name}
 use Rattle.pn_fs.specs.Tree.{Entry, Tree, file}
 use Rattle.pn_fs.specs.Seen.{Seen}
 use Rattle.pn_manifest.specs.Exact.{Id}
-use Rattle.pn_manifest.specs.Fields.{Spot, or_else, field, ok_of, parts_text, is_version, wrong_text, wrong_map, text_field, first_wrong, name_of}
+use Rattle.pn_manifest.specs.Fields.{Spot, or_else, field, wrong_text, wrong_map, text_field, first_wrong, name_of}
 use Rattle.pn_manifest.specs.Pairs.{is_own}
 use Rattle.pn_manifest.specs.Text.{IsObjectText}
 use Rattle.pn_manifest.specs.Refusals.{WrongBytes}
@@ -57,8 +58,8 @@ version_right d h =
 -- what the manifest states is what its text states
 other_is : (id : Id) (d : Data) (m : Manifest) → first_wrong d ≡ None → Says d m → stated_other id m.name (option_map parts_of m.version) ≡ other_of id d
 other_is id d m right says =
-    ap (λ n. or_else (unless (is_own n id.name) (codes "name")) (unless (has_text (option_map parts_of m.version) id.version) (codes "version"))) says.name
-    ∙ ap (λ b. or_else (unless (is_own (name_of d) id.name) (codes "name")) (unless b (codes "version"))) (field_same (field (codes "version") d) (option_map parts_of m.version) id.version (version_right d right) says.version)
+    ap (λ n. or_else (unless (is_own n (id_name id)) (codes "name")) (unless (has_text (option_map parts_of m.version) (id_version id)) (codes "version"))) says.name
+    ∙ ap (λ b. or_else (unless (is_own (name_of d) (id_name id)) (codes "name")) (unless b (codes "version"))) (field_same (field (codes "version") d) (option_map parts_of m.version) (id_version id) (version_right d right) says.version)
 
 wrong_is : (id : Id) (d : Data) (m : Manifest) → first_wrong d ≡ None → Says d m → first_wrong_of id d ≡ stated_other id m.name (option_map parts_of m.version)
 wrong_is id d m right says = ap (λ w. or_else w (other_of id d)) right ∙ sym (other_is id d m right says)

@@ -12,7 +12,6 @@ mod laws;
 mod list;
 mod order;
 mod package;
-mod parts;
 #[cfg(test)]
 mod tests;
 mod walk;

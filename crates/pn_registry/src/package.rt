@@ -10,13 +10,11 @@ ghost use Rattle.pn_registry.specs.PackageFaults.{PackageRefused, TextRefused, I
 
 use crate::folder::manifest_path;
 use pn_fs::ReadFs;
-use pn_manifest::{ExactId, Manifest, ManifestFault, ManifestWhy};
+use pn_manifest::{Manifest, ManifestFault, ManifestWhy};
 use pn_read::{SmallFault, read_small};
-use pn_text::{AbsPath, Memory, Text};
+use pn_text::{AbsPath, Memory, PkgId, TEXT_LIMIT, Text};
 use semver::Version;
 use std::alloc::Global;
-
-const TEXT_LIMIT: u64 = 16777216;
 
 /// Why a package has no manifest: what is wrong with its `package.json`, where `name` and `version` are wrong
 /// fields too if they state another one or none; a file of so many bytes, past 16,777,216; a failed call; no
@@ -33,7 +31,7 @@ pub enum PackageFault {
 pub fn manifest<R: ReadFs>(
     alloc: Global,
     reg: &mut R,
-    id: &ExactId,
+    id: &PkgId,
 ) -> Result<Manifest, PackageFault>
     ensures found { IfSome (R.seen reg.old).tree (λ t. IfOk result (IsFound id.now (t (manifest_path id.now)))) }
     ensures read { IfOk result (λ m. (d : Data) × IsRead id.now d m) }
@@ -50,7 +48,7 @@ pub fn manifest<R: ReadFs>(
 fn read_at<R: ReadFs>(
     alloc: Global,
     reg: &mut R,
-    id: &ExactId,
+    id: &PkgId,
     path: &AbsPath,
 ) -> Result<Manifest, PackageFault>
     requires { path.now ≡ manifest_path id.now }
@@ -69,7 +67,7 @@ fn read_at<R: ReadFs>(
 }
 
 // The manifest that the bytes say.
-fn parse(alloc: Global, id: &ExactId, bytes: &[u8]) -> Result<Manifest, PackageFault>
+fn parse(alloc: Global, id: &PkgId, bytes: &[u8]) -> Result<Manifest, PackageFault>
     ensures read { IfOk result (λ m. (d : Data) × IsObjectText bytes.now d × IsRead id.now d m) }
     ensures refused { IfErr result (TextRefused id.now bytes.now) }
 {
@@ -84,27 +82,27 @@ fn parse(alloc: Global, id: &ExactId, bytes: &[u8]) -> Result<Manifest, PackageF
 }
 
 // Refuses a manifest of another name or version.
-fn states_own(alloc: Global, id: &ExactId, manifest: &Manifest) -> Result<(), PackageFault>
+fn states_own(alloc: Global, id: &PkgId, manifest: &Manifest) -> Result<(), PackageFault>
     ensures own { OnOk result (stated_other id.now manifest.now.name (option_map parts_of manifest.now.version) ≡ None) }
     ensures other { IfErr result (IsOther (stated_other id.now manifest.now.name (option_map parts_of manifest.now.version))) }
 {
     if !manifest.is_own(id.name()) {
         return Err(bad_field(alloc, "name"));
     }
-    if !has_version(alloc, &manifest.version, id.version())? {
+    if !has_version(alloc, &manifest.version, id.version_text())? {
         return Err(bad_field(alloc, "version"));
     }
     Ok(())
 }
 
 // Whether a version has this text.
-fn has_version(alloc: Global, version: &Option<Version>, text: &Text) -> Result<bool, PackageFault>
+fn has_version(alloc: Global, version: &Option<Version>, text: &str) -> Result<bool, PackageFault>
     ensures is { IfOk result (λ is. is ≡ has_text (option_map parts_of version.now) text.now) }
     ensures memory { IfErr result (λ e. e ≡ PackageFault.Memory) }
 {
     match version {
         Some(version) => match version.to_string(alloc) {
-            Ok(stated) => Ok(stated.as_str() == text.as_str()),
+            Ok(stated) => Ok(stated.as_str() == text),
             Err(_) => Err(PackageFault::Memory),
         },
         None => Ok(false),

@@ -2,8 +2,8 @@
 
 use crate::{Files, FilesFault, PackageFault, PackageFile, files, manifest, stands};
 use pn_fs::{Body, SureFs, try_make};
-use pn_manifest::{ExactId, ManifestWhy};
-use pn_text::{AbsPath, PkgName, Text};
+use pn_manifest::ManifestWhy;
+use pn_text::{AbsPath, PkgId, PkgName, Text};
 use std::alloc::Global;
 use std::test::Fail;
 
@@ -49,10 +49,9 @@ fn registry(alloc: Global) -> Result<SureFs, Fail> {
     Ok(fs)
 }
 
-fn id(alloc: Global, version: &str) -> Result<Option<ExactId>, Fail> {
+fn id(alloc: Global, version: &str) -> Result<Option<PkgId>, Fail> {
     let name = PkgName::read(alloc, "a")?;
-    let version = Text::of(alloc, version)?;
-    Ok(ExactId::of(alloc, &name, &version)?)
+    Ok(PkgId::of(alloc, &name, version)?)
 }
 
 // The files, each with a `+` where it isn't empty.
