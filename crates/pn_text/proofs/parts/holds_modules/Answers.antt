@@ -1,7 +1,7 @@
 use Rattle.std.proofs.Common.{sym, ap, ◌∙◌}
 use Rattle.pn_text.specs.Name.{holds_modules}
 use Rattle.pn_text.proofs.Splits.{holds_here, holds_later, behind_slash, none_behind}
-use Rattle.pn_text.proofs.reserved.holds_modules.Goals as goal
+use Rattle.pn_text.proofs.parts.holds_modules.Goals as goal
 
 pub returns-then-is_modules : goal.returns-then-is_modules
 returns-then-is_modules c =
