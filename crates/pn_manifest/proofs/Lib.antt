@@ -1,2 +1,3 @@
 pub mod Levels
 pub mod Rising
+pub mod ExactIds
