@@ -18,16 +18,22 @@ use crate::walk::{WalkFault, walk};
 use pn_fs::ReadFs;
 use pn_text::{AbsPath, ENTRY_LIMIT, FILE_LIMIT, Memory, PkgId, RelPath};
 use std::alloc::Global;
+use thiserror::Error;
 
 /// Why the files of a package aren't told: the first path in byte order with a part `node_modules`; else
 /// the first file of more than 268,435,456 bytes, with its length; more than 4,194,304 entries; a failed
 /// call; no memory.
-#[derive(Drop)]
+#[derive(Debug, Drop, Error)]
 pub enum FilesFault {
+    #[error("{0} has a part node_modules")]
     Modules(RelPath),
+    #[error("{0} has {1} bytes")]
     TooLarge(RelPath, u64),
+    #[error("there are too many entries")]
     Entries,
+    #[error("a call failed")]
     Fault,
+    #[error("out of memory")]
     Memory,
 }
 

@@ -15,24 +15,25 @@ use pn_read::{SmallFault, read_small};
 use pn_text::{AbsPath, Memory, PkgId, TEXT_LIMIT, Text};
 use semver::Version;
 use std::alloc::Global;
+use thiserror::Error;
 
 /// Why a package has no manifest: what is wrong with its `package.json`, where `name` and `version` are wrong
 /// fields too if they state another one or none; a file of so many bytes, past 16,777,216; a failed call; no
 /// memory.
-#[derive(Drop)]
+#[derive(Debug, Drop, Error)]
 pub enum PackageFault {
+    #[error("{0}")]
     Wrong(ManifestWhy),
+    #[error("the file has {0} bytes")]
     TooLarge(u64),
+    #[error("a call failed")]
     Fault,
+    #[error("out of memory")]
     Memory,
 }
 
 /// Reads the manifest of a package. It states the package's name and version.
-pub fn manifest<R: ReadFs>(
-    alloc: Global,
-    reg: &mut R,
-    id: &PkgId,
-) -> Result<Manifest, PackageFault>
+pub fn manifest<R: ReadFs>(alloc: Global, reg: &mut R, id: &PkgId) -> Result<Manifest, PackageFault>
     ensures found { IfSome (R.seen reg.old).tree (λ t. IfOk result (IsFound id.now (t (manifest_path id.now)))) }
     ensures read { IfOk result (λ m. (d : Data) × IsRead id.now d m) }
     ensures kept { Keeps (R.seen reg.old) (R.seen reg.new) }
