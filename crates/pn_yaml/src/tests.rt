@@ -3,7 +3,7 @@ use crate::{Why, YamlFault, read};
 use std::alloc::Global;
 
 // Texts, and the first line at fault.
-const FAULTS: [(&str, YamlFault); 36] = [
+const FAULTS: &[(&str, YamlFault)] = &[
     ("a:\n\tb: 1\n", YamlFault::Line(2, Why::Tab)),
     ("a:\n  b: 1\n  \tc: 1\n", YamlFault::Line(3, Why::Tab)),
     ("  a: 1\n", YamlFault::Line(1, Why::Indent)),
@@ -60,7 +60,7 @@ fn fault(alloc: Global, text: &str) -> Option<YamlFault> {
 
 #[test]
 fn the_first_fault_is_told(rt: HostRuntime) {
-    for (text, wanted) in FAULTS {
+    for &(text, wanted) in FAULTS {
         assert!(rt; fault(rt.alloc(), text) == Some(wanted), "{text}");
     }
 }

@@ -9,10 +9,10 @@ ghost use Rattle.pn_yaml_print.specs.Printing.{below, gap, is_flow_key, item_tex
 ghost use Rattle.pn_yaml.specs.View.{view, items_view, members_view};
 
 use crate::level::{Level, below, is_flow_key, spaces};
-use pn_yaml::Node;
 use crate::print_flow::{push_flow_list, push_flow_map, push_key};
 use crate::word::push_word;
 use pn_text::{Memory, Text};
+use pn_yaml::Node;
 use std::alloc::Global;
 
 // An item of a block list behind its `-`.

@@ -6,9 +6,9 @@ ghost use Rattle.pn_yaml.specs.Data.{list, map};
 ghost use Rattle.pn_yaml_print.specs.Printing.{flow_text, key_text};
 ghost use Rattle.pn_yaml.specs.View.{view, items_view, members_view};
 
-use pn_yaml::Node;
 use crate::word::push_word;
 use pn_text::{Memory, Text};
+use pn_yaml::Node;
 
 /// A key and its colon, in a flow or outside.
 #[tactic(auto, using(crate::proofs::PrintedUtf8::utf8_ascii))]
