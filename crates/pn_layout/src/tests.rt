@@ -1,6 +1,7 @@
 // Layouts of a few packages.
 ghost use Rattle.std.specs.Prelude.{◌≡◌, ◌≢◌, ◌≤◌, ◌++◌, ◌∷◌, [], IfOk, OnOk, codes, length, true};
 ghost use Rattle.std.specs.List.{Contains};
+ghost use Rattle.pn_text.specs.declared.limits.TheConstants.{PATH_LIMIT};
 ghost use Rattle.pn_text.specs.Path.{path_text};
 ghost use Rattle.pn_manifest.specs.Exact.{is_exact};
 ghost use Rattle.pn_manifest.specs.Pairs.{Pair};
@@ -70,7 +71,7 @@ fn check_others(name: &PkgName, all: &Dependencies) -> Result<(), Fail>
 // The path of a package's one file.
 fn file(alloc: Global, folder: &AbsPath) -> Result<RelPath, Fail>
     ensures file { IfOk result (λ f. f ≡ codes "x.js" ∷ codes "lib" ∷ []) }
-    ensures short { IfOk result (λ f. length (path_text (f ++ folder.now)) ≤ 4096) }
+    ensures short { IfOk result (λ f. length (path_text (f ++ folder.now)) ≤ PATH_LIMIT) }
 {
     let file = RelPath::read(alloc, "lib/x.js")?;
     let whole = folder.join(alloc, &file)?;

@@ -4,19 +4,19 @@ use Rattle.std.specs.List.{Contains}
 use Rattle.std.proofs.lemmas.List.{append_cancel_right}
 use Rattle.pn_text.specs.Name.{is_name}
 use Rattle.pn_text.specs.Path.{Path, path_text}
+use Rattle.pn_text.proofs.Members.{in_one}
 use Rattle.pn_node.specs.Plan.{IsSoundFile}
 use Rattle.pn_manifest.specs.Exact.{is_exact}
 use Rattle.pn_manifest.specs.Pairs.{Pair}
 use Rattle.pn_layout.specs.declared.packages.Package.{Package}
 use Rattle.pn_layout.specs.Sound.{AreSoundDependencies, IsSoundPackage}
-use Rattle.pn_layout.proofs.Contents.{only}
 use Rattle.pn_layout.proofs.tests.package.Goals as goal
 
 file_sound : IsSoundFile (codes "x.js" ∷ codes "lib" ∷ [])
 file_sound = record { below = λ e. cc; clean = refl }
 
 is_file : (files : List Path) (one f : Path) → files ≡ one ∷ [] → Contains files f → one ≡ f
-is_file files one f is f_in = only one f (subst (λ fs. Contains fs f) is f_in)
+is_file files one f is f_in = in_one one f (subst (λ fs. Contains fs f) is f_in)
 
 sound_with : (p : Package) (one : Path) → is_name p.name ≡ true → is_exact p.version ≡ true → AreSoundDependencies p.dependencies → ((d : Pair) → Contains p.dependencies d → d.0 ≢ p.name)
     → p.files.items ≡ one ∷ [] → IsSoundFile one → length (path_text (one ++ p.folder)) ≤ 4096 → IsSoundPackage p
