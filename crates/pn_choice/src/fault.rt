@@ -1,16 +1,7 @@
 // Why the packages of a project aren't told.
-use pn_manifest::ExactId;
-use pn_text::{Edge, Memory, Text};
+use pn_manifest::ManifestWhy;
+use pn_text::{Edge, Memory, PkgId, Text};
 use std::alloc::AllocFailed;
-
-/// What is wrong with a package's manifest: no file, no JSON object, or a field and a key in it (empty where the
-/// field itself is wrong).
-#[derive(Drop)]
-pub enum PackageWhy {
-    Missing,
-    NotJson,
-    BadField(Text, Text),
-}
 
 /// Why the packages of a project aren't told: a specifier or a field that isn't built yet; no folder at an edge's
 /// package; a manifest of so many bytes, past 16,777,216; a wrong manifest; so many packages, past 16,384; a
@@ -20,7 +11,7 @@ pub enum ReachFault {
     NotYet(Text),
     NoVersion(Edge),
     TextLimit(u64),
-    Manifest(ExactId, PackageWhy),
+    Manifest(PkgId, ManifestWhy),
     Packages(u64),
     Fault,
     Memory,

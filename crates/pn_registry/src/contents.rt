@@ -14,31 +14,31 @@ ghost use Rattle.pn_registry.specs.FilesFaults.{FilesRefused, NotWalked, IsModul
 use crate::apart::in_order_apart;
 use crate::folder::package_folder;
 use crate::list::{Files, PackageFile};
-use crate::parts::has_modules;
 use crate::walk::{WalkFault, walk};
 use pn_fs::ReadFs;
-use pn_manifest::ExactId;
-use pn_text::{AbsPath, Memory, RelPath};
+use pn_text::{AbsPath, ENTRY_LIMIT, FILE_LIMIT, Memory, PkgId, RelPath};
 use std::alloc::Global;
-
-const FILE_LIMIT: u64 = 268435456;
-
-const ENTRY_LIMIT: u64 = 4194304;
+use thiserror::Error;
 
 /// Why the files of a package aren't told: the first path in byte order with a part `node_modules`; else
 /// the first file of more than 268,435,456 bytes, with its length; more than 4,194,304 entries; a failed
 /// call; no memory.
-#[derive(Drop)]
+#[derive(Debug, Drop, Error)]
 pub enum FilesFault {
+    #[error("{0} has a part node_modules")]
     Modules(RelPath),
+    #[error("{0} has {1} bytes")]
     TooLarge(RelPath, u64),
+    #[error("there are too many entries")]
     Entries,
+    #[error("a call failed")]
     Fault,
+    #[error("out of memory")]
     Memory,
 }
 
 /// All the files at any depth below a package's folder, none below another one. Links are passed over.
-pub fn files<R: ReadFs>(alloc: Global, reg: &mut R, id: &ExactId) -> Result<Files, FilesFault>
+pub fn files<R: ReadFs>(alloc: Global, reg: &mut R, id: &PkgId) -> Result<Files, FilesFault>
     requires { ForSome (R.seen reg.old).tree (λ t. t (package_folder id.now) ≡ Some folder) }
     ensures files { IfSome (R.seen reg.old).tree (λ t. IfOk result (IsFilesOf t (package_folder id.now))) }
     ensures few { IfSome (R.seen reg.old).tree (λ t. OnOk result (HasFew t (package_folder id.now) entry_limit)) }
@@ -112,7 +112,7 @@ fn refuse_modules(alloc: Global, files: &[PackageFile]) -> Result<(), FilesFault
     ensures first { IfErr result (IsModular (find is_modular (map file_of files.now))) }
 {
     for file in files {
-        if has_modules(&file.path) {
+        if file.path.has_modules() {
             let path = file.path.copy(alloc)?;
             return Err(FilesFault::Modules(path));
         }

@@ -15,12 +15,16 @@ use crate::list::PackageFile;
 use pn_fs::{Kind, ReadFs};
 use pn_text::{AbsPath, DevFault, Memory, RelPath, Text};
 use std::alloc::{AllocFailed, Global};
+use thiserror::Error;
 
 /// Why a walk stopped: too many entries, a failed call, no memory.
-#[derive(Clone, Copy, Debug, PartialEq, Eq)]
+#[derive(Clone, Copy, Debug, PartialEq, Eq, Error)]
 pub enum WalkFault {
+    #[error("there are too many entries")]
     Entries,
+    #[error("a call failed")]
     Fault,
+    #[error("out of memory")]
     Memory,
 }
 
