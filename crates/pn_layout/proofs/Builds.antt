@@ -17,6 +17,7 @@ use Rattle.pn_plan.specs.Writes.{StandsAs, IsWritten}
 use Rattle.pn_plan.proofs.Writable.{planned_entry}
 use Rattle.pn_manifest.specs.Pairs.{Pair}
 use Rattle.pn_layout.specs.declared.packages.Package.{Package}
+use Rattle.pn_layout.specs.Sound.{called}
 use Rattle.pn_layout.specs.Store.{store_of, beside_of}
 use Rattle.pn_layout.specs.Layout.{instance_of, top_of, plan_of, IsLaidOut}
 use Rattle.pn_layout.specs.Laws.{BuiltLaw, IsEmptyAt}
@@ -85,7 +86,7 @@ others_kept r at direct packages all t u laid written q away = elim (is_planned 
 pub built : BuiltLaw
 built r at direct packages all t u laid written empty = record {
   built = record {
-    in_one = λ m s e m_in h.
+    only = λ m s e m_in h.
         let is : at ≡ m = in_one at m m_in in
         subst (λ (m : Path). u (s ++ m) ≡ Some e → InBuild (plan_of r at direct packages) (s ++ m) e) is (only_build r at direct packages all t u laid written empty s e) h;
     all = λ q e h.

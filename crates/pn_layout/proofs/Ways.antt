@@ -8,7 +8,7 @@ use Rattle.pn_text.specs.Name.{is_name_part, name_path, modules, IsName}
 use Rattle.pn_text.specs.Relative.{parent_of, dots, IsSteps, NoneShared, IsRelative}
 use Rattle.pn_text.proofs.Joins.{text_below-append}
 use Rattle.pn_text.proofs.NameTexts.{name_of, name_text, name_cases, no_scope_in_part}
-use Rattle.pn_text.proofs.Relatives.{none_up, none_by_parts, steps_some, nested_text, ends_nested}
+use Rattle.pn_text.proofs.Relatives.{none_up, none_by_parts, steps_some}
 use Rattle.pn_manifest.specs.Pairs.{Pair}
 use Rattle.pn_layout.specs.Store.{store_of, dir_name, beside_of, home_of, scope_up, top_text, beside_text}
 use Rattle.pn_layout.specs.Sound.{IsSoundPair}
