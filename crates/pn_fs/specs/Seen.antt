@@ -37,6 +37,11 @@ pub record GaveNames (old : Seen) (count : ℕ) (new : Seen) : Type 0 where
   pub bytes : new.bytes ≡ old.bytes
   pub names : new.names ≡ count_up old.names count
 
+-- Calls gave at most so many bytes and names.
+pub record GaveAtMost (old : Seen) (most_bytes most_names : ℕ) (new : Seen) : Type 0 where
+  pub bytes : new.bytes ≤ old.bytes + most_bytes
+  pub names : new.names ≤ old.names + most_names
+
 -- What a sink took, where that is told; how often it was asked; how often a call failed.
 pub record Taken : Type 0 where
   pub bytes : Option (List ℕ)

@@ -38,37 +38,37 @@ pub enum FilesFault {
 }
 
 /// All the files at any depth below a package's folder, none below another one. Links are passed over.
-pub fn files<R: ReadFs>(alloc: Global, reg: &mut R, id: &PkgId) -> Result<Files, FilesFault>
-    requires { ForSome (R.seen reg.old).tree (λ t. t (package_folder id.now) ≡ Some folder) }
-    ensures files { IfSome (R.seen reg.old).tree (λ t. IfOk result (IsFilesOf t (package_folder id.now))) }
-    ensures few { IfSome (R.seen reg.old).tree (λ t. OnOk result (HasFew t (package_folder id.now) entry_limit)) }
+pub fn files<R: ReadFs>(alloc: Global, registry: &mut R, id: &PkgId) -> Result<Files, FilesFault>
+    requires { ForSome (R.seen registry.old).tree (λ t. t (package_folder id.now) ≡ Some folder) }
+    ensures files { IfSome (R.seen registry.old).tree (λ t. IfOk result (IsFilesOf t (package_folder id.now))) }
+    ensures few { IfSome (R.seen registry.old).tree (λ t. OnOk result (HasFew t (package_folder id.now) entry_limit)) }
     ensures clean { IfOk result (All IsClean) }
     ensures apart { IfOk result AreApart }
     ensures short { IfOk result (All (IsShortBelow (package_folder id.now))) }
     ensures named { IfErr result (NamesShort (package_folder id.now)) }
-    ensures kept { Keeps (R.seen reg.old) (R.seen reg.new) }
-    ensures fault { IfErr result (FilesRefused (package_folder id.now) (R.seen reg.old) (R.seen reg.new)) }
+    ensures kept { Keeps (R.seen registry.old) (R.seen registry.new) }
+    ensures fault { IfErr result (FilesRefused (package_folder id.now) (R.seen registry.old) (R.seen registry.new)) }
 {
     match package_folder(alloc, id) {
-        Ok(Some(at)) => files_at(alloc, reg, &at),
+        Ok(Some(at)) => files_at(alloc, registry, &at),
         Ok(None) => Ok(Files::new(alloc)),
         Err(_) => Err(FilesFault::Memory),
     }
 }
 
-fn files_at<R: ReadFs>(alloc: Global, reg: &mut R, at: &AbsPath) -> Result<Files, FilesFault>
-    requires folder { ForSome (R.seen reg.old).tree (λ t. t at.now ≡ Some folder) }
+fn files_at<R: ReadFs>(alloc: Global, registry: &mut R, at: &AbsPath) -> Result<Files, FilesFault>
+    requires folder { ForSome (R.seen registry.old).tree (λ t. t at.now ≡ Some folder) }
     requires deep { at.now ≢ [] }
-    ensures files { IfSome (R.seen reg.old).tree (λ t. IfOk result (IsFilesOf t at.now)) }
-    ensures few { IfSome (R.seen reg.old).tree (λ t. OnOk result (HasFew t at.now entry_limit)) }
+    ensures files { IfSome (R.seen registry.old).tree (λ t. IfOk result (IsFilesOf t at.now)) }
+    ensures few { IfSome (R.seen registry.old).tree (λ t. OnOk result (HasFew t at.now entry_limit)) }
     ensures clean { IfOk result (All IsClean) }
     ensures apart { IfOk result AreApart }
     ensures short { IfOk result (All (IsShortBelow at.now)) }
     ensures named { IfErr result (NamesShort at.now) }
-    ensures kept { Keeps (R.seen reg.old) (R.seen reg.new) }
-    ensures fault { IfErr result (FilesRefused at.now (R.seen reg.old) (R.seen reg.new)) }
+    ensures kept { Keeps (R.seen registry.old) (R.seen registry.new) }
+    ensures fault { IfErr result (FilesRefused at.now (R.seen registry.old) (R.seen registry.new)) }
 {
-    match all_files(alloc, reg, at) {
+    match all_files(alloc, registry, at) {
         Ok(files) => match refuse(alloc, files.as_slice()) {
             Ok(()) => Ok(files),
             Err(fault) => Err(fault),
@@ -77,17 +77,17 @@ fn files_at<R: ReadFs>(alloc: Global, reg: &mut R, at: &AbsPath) -> Result<Files
     }
 }
 
-fn all_files<R: ReadFs>(alloc: Global, reg: &mut R, at: &AbsPath) -> Result<Files, FilesFault>
-    requires folder { ForSome (R.seen reg.old).tree (λ t. t at.now ≡ Some folder) }
+fn all_files<R: ReadFs>(alloc: Global, registry: &mut R, at: &AbsPath) -> Result<Files, FilesFault>
+    requires folder { ForSome (R.seen registry.old).tree (λ t. t at.now ≡ Some folder) }
     requires deep { at.now ≢ [] }
-    ensures files { IfSome (R.seen reg.old).tree (λ t. IfOk result (IsFilesOf t at.now)) }
-    ensures few { IfSome (R.seen reg.old).tree (λ t. OnOk result (HasFew t at.now entry_limit)) }
+    ensures files { IfSome (R.seen registry.old).tree (λ t. IfOk result (IsFilesOf t at.now)) }
+    ensures few { IfSome (R.seen registry.old).tree (λ t. OnOk result (HasFew t at.now entry_limit)) }
     ensures apart { IfOk result AreApart }
     ensures short { IfOk result (All (IsShortBelow at.now)) }
-    ensures kept { Keeps (R.seen reg.old) (R.seen reg.new) }
-    ensures fault { IfErr result (NotWalked at.now (R.seen reg.old) (R.seen reg.new)) }
+    ensures kept { Keeps (R.seen registry.old) (R.seen registry.new) }
+    ensures fault { IfErr result (NotWalked at.now (R.seen registry.old) (R.seen registry.new)) }
 {
-    match walk(alloc, reg, at, ENTRY_LIMIT) {
+    match walk(alloc, registry, at, ENTRY_LIMIT) {
         Ok(found) => match in_order_apart(alloc, found) {
             Ok(files) => Ok(files),
             Err(_) => Err(FilesFault::Memory),

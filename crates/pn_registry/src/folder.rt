@@ -11,24 +11,24 @@ use pn_text::{AbsPath, DevFault, Memory, PathFault, PkgId};
 use std::alloc::Global;
 
 /// Whether a folder stands at a package's place.
-pub fn stands<R: ReadFs>(alloc: Global, reg: &mut R, id: &PkgId) -> Result<bool, DevFault>
-    ensures folder { IfSome (R.seen reg.old).tree (λ t. IfOk result (λ is. IsTrue is ↔ (t (package_folder id.now) ≡ Some folder))) }
-    ensures kept { Keeps (R.seen reg.old) (R.seen reg.new) }
-    ensures cause { HasCause (R.seen reg.old).faults (R.seen reg.new).faults result }
+pub fn stands<R: ReadFs>(alloc: Global, registry: &mut R, id: &PkgId) -> Result<bool, DevFault>
+    ensures folder { IfSome (R.seen registry.old).tree (λ t. IfOk result (λ is. IsTrue is ↔ (t (package_folder id.now) ≡ Some folder))) }
+    ensures kept { Keeps (R.seen registry.old) (R.seen registry.new) }
+    ensures cause { HasCause (R.seen registry.old).faults (R.seen registry.new).faults result }
 {
     match package_folder(alloc, id) {
-        Ok(Some(path)) => is_folder(reg, &path),
+        Ok(Some(path)) => is_folder(registry, &path),
         Ok(None) => Ok(false),
         Err(_) => Err(DevFault::Memory),
     }
 }
 
-fn is_folder<R: ReadFs>(reg: &mut R, path: &AbsPath) -> Result<bool, DevFault>
-    ensures folder { IfSome (R.seen reg.old).tree (λ t. IfOk result (λ is. IsTrue is ↔ (t path.now ≡ Some folder))) }
-    ensures kept { Keeps (R.seen reg.old) (R.seen reg.new) }
-    ensures cause { HasCause (R.seen reg.old).faults (R.seen reg.new).faults result }
+fn is_folder<R: ReadFs>(registry: &mut R, path: &AbsPath) -> Result<bool, DevFault>
+    ensures folder { IfSome (R.seen registry.old).tree (λ t. IfOk result (λ is. IsTrue is ↔ (t path.now ≡ Some folder))) }
+    ensures kept { Keeps (R.seen registry.old) (R.seen registry.new) }
+    ensures cause { HasCause (R.seen registry.old).faults (R.seen registry.new).faults result }
 {
-    match reg.kind(path) {
+    match registry.kind(path) {
         Ok(Kind::Folder) => Ok(true),
         Ok(_) => Ok(false),
         Err(e) => Err(e),

@@ -33,14 +33,18 @@ pub enum PackageFault {
 }
 
 /// Reads the manifest of a package. It states the package's name and version.
-pub fn manifest<R: ReadFs>(alloc: Global, reg: &mut R, id: &PkgId) -> Result<Manifest, PackageFault>
-    ensures found { IfSome (R.seen reg.old).tree (λ t. IfOk result (IsFound id.now (t (manifest_path id.now)))) }
+pub fn manifest<R: ReadFs>(
+    alloc: Global,
+    registry: &mut R,
+    id: &PkgId,
+) -> Result<Manifest, PackageFault>
+    ensures found { IfSome (R.seen registry.old).tree (λ t. IfOk result (IsFound id.now (t (manifest_path id.now)))) }
     ensures read { IfOk result (λ m. (d : Data) × IsRead id.now d m) }
-    ensures kept { Keeps (R.seen reg.old) (R.seen reg.new) }
-    ensures fault { IfErr result (PackageRefused id.now (R.seen reg.old) (R.seen reg.new)) }
+    ensures kept { Keeps (R.seen registry.old) (R.seen registry.new) }
+    ensures fault { IfErr result (PackageRefused id.now (R.seen registry.old) (R.seen registry.new)) }
 {
     match manifest_path(alloc, id) {
-        Ok(Some(path)) => read_at(alloc, reg, id, &path),
+        Ok(Some(path)) => read_at(alloc, registry, id, &path),
         Ok(None) => Err(PackageFault::Wrong(ManifestWhy::Missing)),
         Err(_) => Err(PackageFault::Memory),
     }
@@ -48,17 +52,17 @@ pub fn manifest<R: ReadFs>(alloc: Global, reg: &mut R, id: &PkgId) -> Result<Man
 
 fn read_at<R: ReadFs>(
     alloc: Global,
-    reg: &mut R,
+    registry: &mut R,
     id: &PkgId,
     path: &AbsPath,
 ) -> Result<Manifest, PackageFault>
     requires { path.now ≡ manifest_path id.now }
-    ensures found { IfSome (R.seen reg.old).tree (λ t. IfOk result (IsFound id.now (t (manifest_path id.now)))) }
+    ensures found { IfSome (R.seen registry.old).tree (λ t. IfOk result (IsFound id.now (t (manifest_path id.now)))) }
     ensures read { IfOk result (λ m. (d : Data) × IsRead id.now d m) }
-    ensures kept { Keeps (R.seen reg.old) (R.seen reg.new) }
-    ensures fault { IfErr result (PackageRefused id.now (R.seen reg.old) (R.seen reg.new)) }
+    ensures kept { Keeps (R.seen registry.old) (R.seen registry.new) }
+    ensures fault { IfErr result (PackageRefused id.now (R.seen registry.old) (R.seen registry.new)) }
 {
-    match read_small(alloc, reg, path, TEXT_LIMIT) {
+    match read_small(alloc, registry, path, TEXT_LIMIT) {
         Ok(bytes) => parse(alloc, id, bytes.as_slice()),
         Err(SmallFault::Missing) => Err(PackageFault::Wrong(ManifestWhy::Missing)),
         Err(SmallFault::TooLarge(length)) => Err(PackageFault::TooLarge(length)),

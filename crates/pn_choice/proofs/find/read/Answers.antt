@@ -9,4 +9,4 @@ returns-in-Ok-clause-found g c =
 pub returns-in-Ok-clause-refused : goal.returns-in-Ok-clause-refused
 returns-in-Ok-clause-refused g c =
     let said = said_of (g.R.ReadFs.seen c.args.registry.now).tree c.args.id.now c.in-Ok.manifest c.requires.folder c.in-Ok.ensures.found c.in-Ok.ensures.read in
-    if_err _ _ c.package.result (λ e h from. unbuilt_of (g.R.ReadFs.seen c.args.registry.now) (g.R.ReadFs.seen c.manifest.new.reg) c.args.id.now c.in-Ok.manifest from e said h) c.package.ensures.refused
+    if_err _ _ c.package.result (λ e h from. unbuilt_of (g.R.ReadFs.seen c.args.registry.now) (g.R.ReadFs.seen c.manifest.new.registry) c.args.id.now c.in-Ok.manifest from e said h) c.package.ensures.refused
