@@ -34,7 +34,7 @@ pub fn collect<R: ReadFs>(
     ensures refused { IfErr result (CollectRefuses (IsFirstRefused reached) (R.seen registry.old) (R.seen registry.new)) }
 {
     let _ = project.dependencies.as_slice();
-    match reached.by_id(alloc) {
+    match reached.by_id() {
         Ok(sorted) => packages(alloc, registry, sorted.as_slice()),
         Err(_) => Err(CollectFault::Memory),
     }

@@ -1,6 +1,6 @@
 use Rattle.std.proofs.lemmas.Result.{err_from_is_err_and}
 use Rattle.std.specs.List.{All}
-use Rattle.pn_choice.proofs.Steps.{keeps_on}
+use Rattle.pn_fs.proofs.SeenLemmas.{keeps_on}
 use Rattle.pn_collect.specs.Outline.{outline, wanted, IsMade, HasFiles}
 use Rattle.pn_collect.specs.CollectFaults.{NoFiles, HasPassed, IsFirstRefused}
 use Rattle.pn_collect.proofs.Causes.{folder_at, exact_at, short_at, refuses_from, refuses_by, if_both}
