@@ -1,5 +1,5 @@
 -- Texts in byte order.
-use Rattle.std.proofs.Common.{◌≡◌, ◌≢◌, ◌≤◌, ◌<◌, ◌+◌, ℕ, List, [], ◌∷◌, ◌++◌, true, false, Ordering, Less, Equal, Greater, nat_cmp, map, length, get_or, inl, inr, refl, sym, ap, ◌∙◌, subst, arith, IsSorted, length-append}
+use Rattle.std.proofs.Common.{◌≡◌, ◌≢◌, ◌<◌, ◌+◌, ℕ, List, [], ◌∷◌, ◌++◌, true, false, Ordering, Less, Equal, Greater, nat_cmp, map, length, get_or, inl, inr, refl, sym, ap, ◌∙◌, subst, arith, IsSorted, length-append}
 use Rattle.std.specs.Cmp.Lexicographic.{slice_cmp}
 use Rattle.std.specs.List.{Contains}
 use Rattle.std.specs.List.Sorted.{IsStrictlySortedBy}
