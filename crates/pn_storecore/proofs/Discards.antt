@@ -10,14 +10,14 @@ use Rattle.pn_storecore.specs.declared.step.StoreStep.TheVariants as step
 use Rattle.pn_storecore.specs.World.{World, objects, Stands}
 use Rattle.pn_storecore.specs.Steps.{Journal, after, world_after, world_of, discarded}
 use Rattle.pn_storecore.specs.Lawful.{AreLawful}
-use Rattle.pn_storecore.specs.Sound.{IsSound}
+use Rattle.pn_storecore.specs.Sound.{IsSound, IsAddressed}
 use Rattle.pn_storecore.specs.Seen.{Seen, Keeps}
 use Rattle.pn_storecore.specs.Calls.{Does}
-use Rattle.pn_storecore.specs.Held.{HasShard, HasObject, Lacks, IsFree, IsSoundStore}
+use Rattle.pn_storecore.specs.Held.{HasShard, HasObject, Lacks, IsFree, IsSoundStore, IsAddressedStore}
 use Rattle.pn_storecore.specs.Grew.{Did}
 use Rattle.pn_storecore.specs.DiscardLaws.{IsOf, DiscardLaw}
 use Rattle.pn_storecore.proofs.Keys.{at_number, at_address}
-use Rattle.pn_storecore.proofs.Published.{emptied_at, sound_steps, files_stay, listings_stay}
+use Rattle.pn_storecore.proofs.Published.{emptied_at, sound_steps, addressed_stays, addressed_discard, files_stay, listings_stay}
 use Rattle.pn_storecore.proofs.Owners.{shards_stay, listing_shards_stay}
 use Rattle.pn_storecore.proofs.Grown.{before, world_now, grown}
 use Rattle.pn_storecore.proofs.Leaving.{put_here}
@@ -99,6 +99,9 @@ listing_sound w at sound = record {
 sound_left : (old new : Seen) (taken : Discard) → ((w : World) → IsSound w → IsSound (discarded taken w)) → Did (step.Discard taken) old new → IsSoundStore old → IsSoundStore new
 sound_left old new taken more called h = stays_so IsSound old new taken called (λ j others told lawful. sound_steps (world_of j) others (h j told) lawful) more
 
+addressed_left : (old new : Seen) (taken : Discard) → Did (step.Discard taken) old new → IsAddressedStore old → IsAddressedStore new
+addressed_left old new taken called h = stays_so IsAddressed old new taken called (λ j others told lawful. addressed_stays (world_of j) others (h j told) lawful) (λ w is. addressed_discard w 0 (step.Discard taken) is tt)
+
 pub discards : DiscardLaw
 discards = record {
   temp = temp_gone;
@@ -109,4 +112,5 @@ discards = record {
   sound_temp = λ old new k. sound_left old new (what.Temp k) (λ w. temp_sound w k);
   sound_listing = λ old new at. sound_left old new (what.Listing at) (λ w. listing_sound w at);
   sound_file = sound_file;
+  addressed = addressed_left;
 }

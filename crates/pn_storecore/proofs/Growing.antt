@@ -7,13 +7,13 @@ use Rattle.pn_storecore.specs.declared.step.StoreStep.{StoreStep}
 use Rattle.pn_storecore.specs.World.{World, empty, Stands}
 use Rattle.pn_storecore.specs.Steps.{Journal, world_after, world_of}
 use Rattle.pn_storecore.specs.Lawful.{IsLawful, AreLawful}
-use Rattle.pn_storecore.specs.Sound.{IsSound}
+use Rattle.pn_storecore.specs.Sound.{IsSound, IsAddressed}
 use Rattle.pn_storecore.specs.Seen.{Seen, Keeps, Asks, fresh}
-use Rattle.pn_storecore.specs.Held.{HasShard, HasObject, IsSoundStore}
+use Rattle.pn_storecore.specs.Held.{HasShard, HasObject, IsSoundStore, IsAddressedStore}
 use Rattle.pn_storecore.specs.Grew.{DidTo, Did, GrewTo, Grew}
 use Rattle.pn_storecore.specs.CallLaws.{GrewLaw}
 use Rattle.pn_storecore.proofs.Journals.{after_both, lawful_both}
-use Rattle.pn_storecore.proofs.Published.{sound_empty, sound_steps, files_stay, listings_stay}
+use Rattle.pn_storecore.proofs.Published.{sound_empty, sound_steps, sound_addressed, addressed_stays, files_stay, listings_stay}
 use Rattle.pn_storecore.proofs.Owners.{shards_stay, listing_shards_stay, place}
 use Rattle.pn_storecore.proofs.Grown.{none_told}
 use Rattle.pn_storecore.proofs.Called.{part_lawful, if_told, told_if}
@@ -88,6 +88,9 @@ object_grew old new Listings at g h x told = let c = came old new x g told in su
 sound_grew : (old new : Seen) → Grew old new → IsSoundStore old → IsSoundStore new
 sound_grew old new g h x told = let c = came old new x g told in subst IsSound (sym c.world) (sound_steps (world_of c.was) c.steps (h c.was c.told) c.lawful)
 
+addressed_grew : (old new : Seen) → Grew old new → IsAddressedStore old → IsAddressedStore new
+addressed_grew old new g h x told = let c = came old new x g told in subst IsAddressed (sym c.world) (addressed_stays (world_of c.was) c.steps (h c.was c.told) c.lawful)
+
 fresh_sound : (me : ℕ) → IsSoundStore (fresh me)
 fresh_sound me j told = let none : [] ≡ j = cc in subst (λ x. IsSound (world_of x)) none sound_empty
 
@@ -100,4 +103,6 @@ grew = record {
   object = object_grew;
   sound = sound_grew;
   at_first = fresh_sound;
+  digests = λ s h j told. sound_addressed (world_of j) (h j told);
+  addressed = addressed_grew;
 }

@@ -12,15 +12,14 @@ use Rattle.pn_storecore.specs.declared.step.Place.TheVariants.{Files, Listings}
 use Rattle.pn_storecore.specs.declared.step.Discard.TheVariants as what
 use Rattle.pn_storecore.specs.declared.step.StoreStep.{StoreStep}
 use Rattle.pn_storecore.specs.declared.step.StoreStep.TheVariants.{Claim, Create, Append, Shard, PublishFile, PublishListing, DropTemp, Read, Discard}
-use Rattle.pn_storecore.specs.World.{Temp, World, empty, objects, Stands, content, with_temp}
+use Rattle.pn_storecore.specs.World.{Temp, World, objects, Stands, content, with_temp}
 use Rattle.pn_storecore.specs.Steps.{Journal, after, world_of}
-use Rattle.pn_storecore.specs.Lawful.{AreLawfulOrDiscards}
 use Rattle.pn_storecore.specs.Seen.{Seen, Keeps}
 use Rattle.pn_storecore.specs.Calls.{Answers, Does, IsRead, AreAddresses}
-use Rattle.pn_storecore.specs.Held.{TempFiles, Holds, HasShard, HasObject, HasBytes, HasDigest, Spares}
+use Rattle.pn_storecore.specs.Held.{TempFiles, Holds, HasShard, HasObject, HasBytes, HasDigest, IsAddressedStore, Spares}
 use Rattle.pn_storecore.specs.CallLaws.{StandsLaw, LeavesLaw}
 use Rattle.pn_storecore.proofs.Keys.{at_number, at_address, none_some}
-use Rattle.pn_storecore.proofs.Published.{sound}
+use Rattle.pn_storecore.proofs.Published.{addressed_at, right_digest}
 use Rattle.pn_storecore.proofs.Owners.{claim_keeps}
 use Rattle.pn_storecore.proofs.Grown.{Grown, before, world_now, grown}
 use Rattle.pn_storecore.proofs.Holding.{folder, content_held, held_before, held_now, kept_now}
@@ -88,8 +87,11 @@ some_bytes : (o : Option (List ℕ)) → o ≢ None → (bytes : List ℕ) × (o
 some_bytes None h = absurd (h refl)
 some_bytes (Some bytes) h = (bytes, refl)
 
-has_digest : (s : Seen) (place : Place) (at : List ℕ) → ForSome s.journal (λ j. ∥ AreLawfulOrDiscards empty j ∥₁) → HasObject s place at → HasDigest s place at
-has_digest s place at lawful h j told = let some = some_bytes ((objects (world_of j) place).bytes at) (h j told) in (some.0, some.1, sound.addressed j (lawful j told) place at some.0 some.1)
+has_digest : (s : Seen) (place : Place) (at : List ℕ) → IsAddressedStore s → HasObject s place at → HasDigest s place at
+has_digest s place at is h j told =
+    let w = world_of j in
+    let some = some_bytes ((objects w place).bytes at) (h j told) in
+    (some.0, some.1, right_digest place at some.0 (addressed_at w place at some.0 (is j told) some.1))
 
 pub stands : StandsLaw
 stands = record {

@@ -2,12 +2,7 @@ pub mod Keys
 pub mod Changes
 pub mod Published
 pub mod Owners
-pub mod Addresses
 pub mod Journals
-pub mod KeyLists
-pub mod Own
-pub mod Standing
-pub mod Behind
 pub mod Grown
 pub mod Called
 pub mod Growing
@@ -17,6 +12,3 @@ pub mod Claims
 pub mod Discards
 pub mod Worlds
 pub mod Past
-pub mod Scripts
-pub mod Listed
-pub mod Schedules

@@ -1,17 +1,21 @@
 -- What stood at an address at a step of some calls.
 use Rattle.std.proofs.Common.{◌≡◌, ℕ, List, [], ◌∷◌, ◌++◌, refl, sym, ap, ◌∙◌, subst, append-nil, append_assoc, Some, Ok, Err}
 use Rattle.std.specs.Prelude.{Option, Result, IfOk, IfSome}
+use Rattle.std.proofs.lemmas.List.{append_cancel_left}
 use Rattle.pn_text.specs.declared.fault.DevFault.{DevFault}
 use Rattle.pn_storecore.specs.declared.step.Place.{Place}
 use Rattle.pn_storecore.specs.declared.step.StoreStep.TheVariants.{Read}
 use Rattle.pn_storecore.specs.World.{World, empty, objects}
-use Rattle.pn_storecore.specs.Steps.{Journal, world_of}
+use Rattle.pn_storecore.specs.Steps.{Journal, after, world_of}
+use Rattle.pn_storecore.specs.Lawful.{AreLawful}
+use Rattle.pn_storecore.specs.Sound.{IsAddressed, MayStand}
 use Rattle.pn_storecore.specs.Seen.{Seen, Keeps}
 use Rattle.pn_storecore.specs.Calls.{Grows, Answers, IsRead}
-use Rattle.pn_storecore.specs.Held.{HasBytes}
+use Rattle.pn_storecore.specs.Held.{HasBytes, IsAddressedStore}
 use Rattle.pn_storecore.specs.Grew.{GrewTo, Grew, WasTo, Was, ReadTo}
 use Rattle.pn_storecore.specs.CallLaws.{WasLaw}
 use Rattle.pn_storecore.proofs.Journals.{after_both}
+use Rattle.pn_storecore.proofs.Published.{addressed_at, addressed_stays}
 use Rattle.pn_storecore.proofs.Called.{if_told, told_if}
 
 was_read : (old new : Seen) (place : Place) (at : List ℕ) (from : ℕ) (into : List ℕ) (r : Result (Option ℕ) DevFault) → Keeps old new → Answers old Read new r (λ w found. IsRead ((objects w place).bytes at) from into found)
@@ -49,5 +53,20 @@ was_behind a b c place at bytes h g = if_told (λ j. WasTo place at bytes j c.jo
     let two = told_if (λ j. GrewTo j c.journal) b.journal (x ++ one.front ++ one.back) one.came g.journal in
     record { front = one.front; back = one.back ++ two.steps; came = two.came ∙ ap Some (append_assoc (x ++ one.front) one.back two.steps); was = one.was })
 
+lawful_front : (w : World) (xs ys : Journal) → AreLawful w (xs ++ ys) → AreLawful w xs
+lawful_front w [] ys h = tt
+lawful_front w (e ∷ xs) ys h = (h.0, lawful_front (after e.0 e.1 w) xs ys h.1)
+
+was_right : (j : Journal) (place : Place) (at bytes : List ℕ) (new : Option Journal) → GrewTo j new → IsAddressed (world_of j) → WasTo place at (Some bytes) j new → MayStand place at bytes
+was_right j place at bytes new g is h =
+    let twice : j ++ g.steps ≡ j ++ h.front ++ h.back = cc (g.came, h.came) in
+    let same = append_cancel_left j g.steps (h.front ++ h.back) (twice ∙ append_assoc j h.front h.back) in
+    let lawful = lawful_front (world_of j) h.front h.back (subst (AreLawful (world_of j)) same g.lawful) in
+    addressed_at (world_of (j ++ h.front)) place at bytes (subst IsAddressed (sym (after_both empty j h.front)) (addressed_stays (world_of j) h.front is lawful)) h.was
+
+was_digest : (old new : Seen) (place : Place) (at bytes : List ℕ) → Grew old new → IsAddressedStore old → Was place at (Some bytes) old new → IfSome old.journal (λ j. MayStand place at bytes)
+was_digest old new place at bytes g is h = if_told (λ j. MayStand place at bytes) old.journal (λ j told.
+    was_right j place at bytes new.journal (told_if (λ j. GrewTo j new.journal) old.journal j told g.journal) (is j told) (told_if (λ j. WasTo place at (Some bytes) j new.journal) old.journal j told h))
+
 pub was : WasLaw
-was = record { read = was_read; now = was_now; before = was_before; behind = was_behind }
+was = record { read = was_read; now = was_now; before = was_before; behind = was_behind; digest = was_digest }

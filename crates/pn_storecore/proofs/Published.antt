@@ -16,7 +16,7 @@ use Rattle.pn_storecore.specs.World.{Objects, World, empty, objects, Stands}
 use Rattle.pn_storecore.specs.Stored.{IsStoredFile, file_limit}
 use Rattle.pn_storecore.specs.Steps.{Event, Journal, after, world_after, world_of}
 use Rattle.pn_storecore.specs.Lawful.{IsLawful, AreLawful, IsDiscard, AreLawfulOrDiscards}
-use Rattle.pn_storecore.specs.Sound.{IsSound}
+use Rattle.pn_storecore.specs.Sound.{IsSound, IsAddressed, MayStand}
 use Rattle.pn_storecore.specs.Laws.{SoundLaw, PublishedLaw, KeepsObjects}
 use Rattle.pn_storecore.proofs.Keys.{at_address}
 use Rattle.pn_storecore.proofs.Changes.{Changes, files_change, listings_change, file_shards, listing_shards, stays, sound_step}
@@ -38,12 +38,7 @@ undiscarded : (w : World) (steps : Journal) → AreLawfulOrDiscards w steps → 
 undiscarded w [] h none = tt
 undiscarded w (e ∷ es) h none = (elim h.0 [ inl lawful ↦ lawful | inr discard ↦ absurd (none.0 discard) ], undiscarded (after e.0 e.1 w) es h.1 none.1)
 
--- Each object has its address as digest, and a file is within the limit.
-record AreAddressed (w : World) : Type 0 where
-  files : (at bytes : List ℕ) → w.files.bytes at ≡ Some bytes → IsStoredFile at bytes
-  listings : (at bytes : List ℕ) → w.listings.bytes at ≡ Some bytes → sha512 bytes ≡ at
-
-addressed_lawful : (w : World) (who : ℕ) (s : StoreStep) → AreAddressed w → IsLawful who s w → AreAddressed (after who s w)
+addressed_lawful : (w : World) (who : ℕ) (s : StoreStep) → IsAddressed w → IsLawful who s w → IsAddressed (after who s w)
 addressed_lawful w who s is h = record {
   files = λ at bytes e. elim (files_change w who s h at) [
     | inl same ↦ is.files at bytes (sym same ∙ e)
@@ -62,7 +57,7 @@ emptied_at f at q bytes e = elim (at_address f at None q) [
   | inr other ↦ sym other.1 ∙ e
 ]
 
-addressed_discard : (w : World) (who : ℕ) (s : StoreStep) → AreAddressed w → IsDiscard s → AreAddressed (after who s w)
+pub addressed_discard : (w : World) (who : ℕ) (s : StoreStep) → IsAddressed w → IsDiscard s → IsAddressed (after who s w)
 addressed_discard w who (Claim k) is h = absurd h
 addressed_discard w who (Create k n) is h = absurd h
 addressed_discard w who (Append k n more) is h = absurd h
@@ -75,16 +70,36 @@ addressed_discard w who (Discard (what.Temp k)) is h = record { files = is.files
 addressed_discard w who (Discard (what.File at)) is h = record { files = λ q bytes e. is.files q bytes (emptied_at w.files.bytes at q bytes e); listings = is.listings }
 addressed_discard w who (Discard (what.Listing at)) is h = record { files = is.files; listings = λ q bytes e. is.listings q bytes (emptied_at w.listings.bytes at q bytes e) }
 
-addressed_steps : (w : World) (steps : Journal) → AreAddressed w → AreLawfulOrDiscards w steps → AreAddressed (world_after w steps)
+pub addressed_steps : (w : World) (steps : Journal) → IsAddressed w → AreLawfulOrDiscards w steps → IsAddressed (world_after w steps)
 addressed_steps w [] is h = is
 addressed_steps w (e ∷ es) is h = addressed_steps (after e.0 e.1 w) es (elim h.0 [ inl lawful ↦ addressed_lawful w e.0 e.1 is lawful | inr discard ↦ addressed_discard w e.0 e.1 is discard ]) h.1
 
-addressed_told : (journal : Journal) → AreLawfulOrDiscards empty journal → AreAddressed (world_of journal)
+addressed_told : (journal : Journal) → AreLawfulOrDiscards empty journal → IsAddressed (world_of journal)
 addressed_told journal h = addressed_steps empty journal (record { files = λ at bytes e. cc; listings = λ at bytes e. cc }) h
 
-addressed_at : (w : World) (place : Place) (at bytes : List ℕ) → AreAddressed w → (objects w place).bytes at ≡ Some bytes → sha512 bytes ≡ at
-addressed_at w Files at bytes is e = (is.files at bytes e).addressed
+pub addressed_at : (w : World) (place : Place) (at bytes : List ℕ) → IsAddressed w → (objects w place).bytes at ≡ Some bytes → MayStand place at bytes
+addressed_at w Files at bytes is e = is.files at bytes e
 addressed_at w Listings at bytes is e = is.listings at bytes e
+
+pub right_digest : (place : Place) (at bytes : List ℕ) → MayStand place at bytes → sha512 bytes ≡ at
+right_digest Files at bytes h = h.addressed
+right_digest Listings at bytes h = h
+
+pub sound_addressed : (w : World) → IsSound w → IsAddressed w
+sound_addressed w is = record { files = is.files; listings = λ at bytes e. (is.listings at bytes e).addressed }
+
+front_any : (w : World) (steps : Journal) (k : ℕ) → AreLawfulOrDiscards w steps → AreLawfulOrDiscards w (take k steps)
+front_any w [] zero h = tt
+front_any w [] (suc k) h = tt
+front_any w (e ∷ es) zero h = tt
+front_any w (e ∷ es) (suc k) h = (h.0, front_any (after e.0 e.1 w) es k h.1)
+
+all_lawful : (w : World) (steps : Journal) → AreLawful w steps → AreLawfulOrDiscards w steps
+all_lawful w [] h = tt
+all_lawful w (e ∷ es) h = (inl h.0, all_lawful (after e.0 e.1 w) es h.1)
+
+pub addressed_stays : (w : World) (steps : Journal) → IsAddressed w → AreLawful w steps → IsAddressed (world_after w steps)
+addressed_stays w steps is h = addressed_steps w steps is (all_lawful w steps h)
 
 same_digest : (a b : List ℕ) → IsProp (a ≡ b)
 same_digest a b = hlevel props
@@ -96,9 +111,16 @@ pub sound : SoundLaw
 sound = record {
   at_first = sound_empty;
   stays = λ w steps is h k. sound_steps w (take k steps) is (front w steps k h);
+  digests = sound_addressed;
+  digests_stay = λ w steps is h k. addressed_steps w (take k steps) is (front_any w steps k h);
   told = λ journal h none. ∥∥₁_map h (λ l. sound_steps empty journal sound_empty (undiscarded empty journal l none));
-  addressed = λ journal h place at bytes e. ∥∥₁_elim h (same_digest (sha512 bytes) at) (λ l. addressed_at (world_of journal) place at bytes (addressed_told journal l) e);
-  short = λ journal h at bytes e. ∥∥₁_elim h (at_most (length bytes) file_limit) (λ l. ((addressed_told journal l).files at bytes e).short);
+  addressed = λ journal h. record {
+    files = λ at bytes e. record {
+      addressed = ∥∥₁_elim h (same_digest (sha512 bytes) at) (λ l. ((addressed_told journal l).files at bytes e).addressed);
+      short = ∥∥₁_elim h (at_most (length bytes) file_limit) (λ l. ((addressed_told journal l).files at bytes e).short);
+    };
+    listings = λ at bytes e. ∥∥₁_elim h (same_digest (sha512 bytes) at) (λ l. (addressed_told journal l).listings at bytes e);
+  };
 }
 
 step_keeps : {May : List ℕ → List ℕ → Type 0} (old new : Objects) → ((at bytes : List ℕ) → old.bytes at ≡ Some bytes → sha512 bytes ≡ at) → ((at bytes : List ℕ) → May at bytes → sha512 bytes ≡ at)

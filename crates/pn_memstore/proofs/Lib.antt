@@ -1,0 +1,9 @@
+pub mod Addresses
+pub mod KeyLists
+pub mod Own
+pub mod Standing
+pub mod Behind
+pub mod Scripts
+pub mod Listed
+pub mod Schedules
+pub mod RisesToLemmas
