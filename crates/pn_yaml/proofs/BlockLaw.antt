@@ -2,6 +2,7 @@
 use Rattle.std.proofs.Common.{◌≡◌, ◌<◌, ◌≤◌, ℕ, zero, suc, Bool, true, false, List, [], ◌∷◌, ◌++◌, length, Ok, refl, ap, ◌∙◌, arith}
 use Rattle.std.specs.Prelude.{◌==◌, ◌&&◌, not, nat_lt, if◌then◌else◌}
 use Rattle.std.proofs.lemmas.Bool.{and_from, and_left, and_parts, cond-false, cond-true, eq-eqb, le-ltb, lt-ltb, ne_eqb, not-true}
+use Rattle.pn_text.proofs.Bytes.{other_byte}
 use Rattle.pn_yaml.specs.declared.fault.Why.TheVariants as why
 use Rattle.pn_yaml.specs.Bytes.{space, ends_word, tail_of}
 use Rattle.pn_yaml.specs.Data.{Data, scalar, list, map, Items, no_items, item, Members, no_members, member, depth, items_depth, members_depth, are_apart, items_apart, members_apart, is_among}
@@ -11,7 +12,7 @@ use Rattle.pn_yaml.specs.Rows.{Row, ahead, content, row_indentation}
 use Rattle.pn_yaml.specs.Blocks.{Reader, block_items, block_member, block_members, is_item, key_at, with_item, with_member}
 use Rattle.pn_yaml.proofs.Outcomes.{bind_ok}
 use Rattle.pn_yaml.proofs.WordLaw.{key_law}
-use Rattle.pn_yaml.proofs.PrintedBytes.{differs, is_opening}
+use Rattle.pn_yaml.proofs.PrintedBytes.{is_opening}
 use Rattle.pn_yaml.proofs.PrintedLines.{gap_rows, items_rows, key-opens, member_line, members_rows, value_front, value_rows}
 use Rattle.pn_yaml.proofs.PrintedRows.{IsRow, item-row, member-row, number_behind, rows-append, rows_on}
 
@@ -136,7 +137,7 @@ front-ends false (map (member k d ms)) = refl
 pub key-no_item : (row : Row) (k front : List ℕ) → content row ≡ key_text false k ++ front → is_item (content row) ≡ false
 key-no_item row k front e =
     let o = key-opens k front in
-    ap is_item (e ∙ o.whole) ∙ and_left _ _ (differs is_opening o.first 45 o.good refl)
+    ap is_item (e ∙ o.whole) ∙ and_left _ _ (other_byte is_opening o.first 45 o.good refl)
 
 members-end : (value : Reader) (indent steps : ℕ) (seen : List (List ℕ)) (next : List Row) → AreLower indent next
     → block_members value indent steps seen next ≡ Ok (no_members, next)

@@ -2,6 +2,7 @@
 use Rattle.std.proofs.Common.{◌≡◌, ◌≤◌, ℕ, zero, suc, max, Bool, true, false, List, [], ◌∷◌, ◌++◌, length, Ok, Result, refl, sym, ap, subst, ◌∙◌, append_assoc, arith}
 use Rattle.std.specs.Prelude.{◌==◌, ◌&&◌, ◌||◌, not, codes, if◌then◌else◌}
 use Rattle.std.proofs.lemmas.List.{length-append}
+use Rattle.std.proofs.lemmas.Bool.{and_parts, not-true}
 use Rattle.pn_yaml.specs.declared.fault.Why.TheVariants as why
 use Rattle.pn_yaml.specs.declared.fault.YamlFault.{YamlFault}
 use Rattle.pn_yaml.specs.declared.scalar.Place.TheVariants as place
@@ -10,9 +11,9 @@ use Rattle.pn_yaml.specs.Data.{Data, scalar, list, map, Items, no_items, item, M
 use Rattle.pn_yaml.specs.Flow.{Reader, behind_value, flow_at, flow_items, flow_key, flow_member, flow_members, flow_value, is_flow, list_in, map_in, with_item, with_member}
 use Rattle.pn_yaml.specs.Outcome.{◌>>=◌, wrong}
 use Rattle.pn_yaml.specs.Scalars.{Word, is_colon, word_at}
-use Rattle.pn_yaml.specs.Words.{is_one_of, is_plain, word_text}
+use Rattle.pn_yaml.specs.PrintedScalars.{is_one_of, is_plain, word_text}
 use Rattle.pn_yaml.specs.Printing.{flow_text, items_text, later_items_text, members_text, later_members_text, key_text, flow_marked, flow_items_marked, flow_members_marked}
-use Rattle.pn_yaml.proofs.ByteTests.{and_left, and_right, not_false, apart, fewer}
+use Rattle.pn_yaml.proofs.ByteTests.{apart, fewer}
 use Rattle.pn_yaml.proofs.PlainLaw.{may_end}
 use Rattle.pn_yaml.proofs.WordLaw.{Begins, word_begins, word_law}
 
@@ -26,7 +27,7 @@ opens_value b = not (is_one_of shut b)
 word_opens : (flow : Bool) (text : List ℕ) (plain : Bool) → Begins opens_value (word_text flow text plain)
 word_opens flow text plain =
     let b = word_begins flow text plain in
-    record { first = b.first; later = b.later; whole = b.whole; good = ap not (fewer shut (codes "-?:,[]{}#&*!|>%@` ") b.first refl (not_false _ b.good)) }
+    record { first = b.first; later = b.later; whole = b.whole; good = ap not (fewer shut (codes "-?:,[]{}#&*!|>%@` ") b.first refl (not-true _ b.good)) }
 
 flow_opens : (d : Data) → Begins opens_value (flow_text d)
 flow_opens (scalar text plain) = word_opens true text plain
@@ -45,7 +46,7 @@ record Leads (text y : List ℕ) : Type 0 where
 
 leads_first : (b : ℕ) (rest : List ℕ) → opens_value b ≡ true → Leads (b ∷ rest) (b ∷ rest)
 leads_first b rest h =
-    let far : (c : ℕ) → is_one_of shut c ≡ true → (b == c) ≡ false = λ c i. apart shut b c (not_false _ h) i in
+    let far : (c : ℕ) → is_one_of shut c ≡ true → (b == c) ≡ false = λ c i. apart shut b c (not-true _ h) i in
     let same : unindented (b ∷ rest) ≡ b ∷ rest = ap (λ z. if z then unindented rest else b ∷ rest) (far 32 refl) in
     record {
       cut = ap (λ z. is_empty z || ((b == space) && starts 35 z)) same ∙ ap (λ z. z && (b == 35)) (far 32 refl);
@@ -56,7 +57,7 @@ leads_first b rest h =
 
 leads_space : (b : ℕ) (rest : List ℕ) → opens_value b ≡ true → Leads (space ∷ b ∷ rest) (b ∷ rest)
 leads_space b rest h =
-    let far : (c : ℕ) → is_one_of shut c ≡ true → (b == c) ≡ false = λ c i. apart shut b c (not_false _ h) i in
+    let far : (c : ℕ) → is_one_of shut c ≡ true → (b == c) ≡ false = λ c i. apart shut b c (not-true _ h) i in
     let same : unindented (b ∷ rest) ≡ b ∷ rest = ap (λ z. if z then unindented rest else b ∷ rest) (far 32 refl) in
     record {
       cut = ap (λ z. is_empty z || starts 35 z) same ∙ far 35 refl;
@@ -109,7 +110,7 @@ key_begins : (k rest : List ℕ) → is_flow (key_text true k ++ rest) ≡ false
 key_begins k rest =
     let b = word_begins true k false in
     let far : (c : ℕ) → is_one_of (codes "-?:,[]{}#&*!|>%@` ") c ≡ true → starts c (key_text true k ++ rest) ≡ false
-    = λ c i. ap (λ z. starts c ((z ++ 58 ∷ []) ++ rest)) b.whole ∙ apart (codes "-?:,[]{}#&*!|>%@` ") b.first c (not_false _ b.good) i in
+    = λ c i. ap (λ z. starts c ((z ++ 58 ∷ []) ++ rest)) b.whole ∙ apart (codes "-?:,[]{}#&*!|>%@` ") b.first c (not-true _ b.good) i in
     ap (λ z. z || starts 123 (key_text true k ++ rest)) (far 91 refl) ∙ far 123 refl
 
 key_read : (k : List ℕ) (line : ℕ) (seen : List (List ℕ)) (y : List ℕ) → is_among k seen ≡ false → flow_key line seen (key_text true k ++ space ∷ y) ≡ Ok (k, space ∷ y)
@@ -183,7 +184,7 @@ scalar_law text plain levels line tail ends =
     let y = word_text true text plain ++ tail in
     let b = word_begins true text plain in
     let far : (c : ℕ) → is_one_of (codes "-?:,[]{}#&*!|>%@` ") c ≡ true → starts c y ≡ false
-    = λ c i. ap (λ z. starts c (z ++ tail)) b.whole ∙ apart (codes "-?:,[]{}#&*!|>%@` ") b.first c (not_false _ b.good) i in
+    = λ c i. ap (λ z. starts c (z ++ tail)) b.whole ∙ apart (codes "-?:,[]{}#&*!|>%@` ") b.first c (not-true _ b.good) i in
     let in_list = list_in (flow_items (flow_at levels line) line (length y) (tail_of y)) in
     let in_map = map_in (flow_members (flow_at levels line) line (length y) [] (tail_of y)) in
     let read : Result (Word × List ℕ) YamlFault → Result (Data × List ℕ) YamlFault = λ r. r >>= λ w. Ok (scalar w.0.text w.0.plain, w.1) in
@@ -232,8 +233,8 @@ mutual
       let text = (items_text (item d ds) ++ 93 ∷ []) ++ tail in
       let whole = items_whole (flow_text d) (later_items_text ds) tail in
       ap list_in (items_next (flow_at levels line) d (flow_marked d) (flow_items_marked ds) line (length text) text behind tail
-      (flow_law d levels line behind (first_flat (depth d) (items_depth ds) levels low) (and_left (are_apart d) (items_apart ds) new) (items_end ds tail))
-      (items_behind ds levels line (length text) tail (rest_flat (depth d) (items_depth ds) levels low) (and_right (are_apart d) (items_apart ds) new)
+      (flow_law d levels line behind (first_flat (depth d) (items_depth ds) levels low) (and_parts (are_apart d) (items_apart ds) new).0 (items_end ds tail))
+      (items_behind ds levels line (length text) tail (rest_flat (depth d) (items_depth ds) levels low) (and_parts (are_apart d) (items_apart ds) new).1
       (longer text (flow_text d) behind (items_count ds) whole (items_few ds (93 ∷ tail))))
       (leads text (flow_text d ++ behind) whole (opens_more (flow_text d) behind (flow_opens d))))
   flow_law (map ms) zero line tail flat new ends = absurd (omega arith)
@@ -244,9 +245,9 @@ mutual
       let text = (members_text (member k d ms) ++ 125 ∷ []) ++ tail in
       let whole = members_whole (key_text true k) (flow_text d) (later_members_text ms) tail in
       ap map_in (members_next (flow_at levels line) k d (flow_marked d) (flow_members_marked ms) line (length text) [] text behind tail
-      (flow_law d levels line behind (first_flat (depth d) (members_depth ms) levels low) (and_left (are_apart d) (members_apart (k ∷ []) ms) new) (members_end ms tail))
+      (flow_law d levels line behind (first_flat (depth d) (members_depth ms) levels low) (and_parts (are_apart d) (members_apart (k ∷ []) ms) new).0 (members_end ms tail))
       refl
-      (members_behind ms levels line (length text) (k ∷ []) tail (rest_flat (depth d) (members_depth ms) levels low) (and_right (are_apart d) (members_apart (k ∷ []) ms) new)
+      (members_behind ms levels line (length text) (k ∷ []) tail (rest_flat (depth d) (members_depth ms) levels low) (and_parts (are_apart d) (members_apart (k ∷ []) ms) new).1
       (longer_member text (key_text true k) (flow_text d) behind (members_count ms) whole (members_few ms (125 ∷ tail))))
       (leads text (key_text true k ++ space ∷ (flow_text d ++ behind)) whole (key_opens k (space ∷ (flow_text d ++ behind)))))
 
@@ -258,8 +259,8 @@ mutual
       let behind = items_behind_text ds tail in
       let text = (flow_text d ++ later_items_text ds) ++ 93 ∷ tail in
       items_next (flow_at levels line) d (flow_marked d) (flow_items_marked ds) line steps (space ∷ text) behind tail
-      (flow_law d levels line behind (first_flat (depth d) (items_depth ds) levels flat) (and_left (are_apart d) (items_apart ds) new) (items_end ds tail))
-      (items_behind ds levels line steps tail (rest_flat (depth d) (items_depth ds) levels flat) (and_right (are_apart d) (items_apart ds) new) (one_less (items_count ds) steps few))
+      (flow_law d levels line behind (first_flat (depth d) (items_depth ds) levels flat) (and_parts (are_apart d) (items_apart ds) new).0 (items_end ds tail))
+      (items_behind ds levels line steps tail (rest_flat (depth d) (items_depth ds) levels flat) (and_parts (are_apart d) (items_apart ds) new).1 (one_less (items_count ds) steps few))
       (leads_behind text (flow_text d ++ behind) (append_assoc (flow_text d) (later_items_text ds) (93 ∷ tail)) (opens_more (flow_text d) behind (flow_opens d)))
 
   members_behind : (ms : Members) (levels line steps : ℕ) (seen : List (List ℕ)) (tail : List ℕ) → members_depth ms ≤ levels → members_apart seen ms ≡ true → members_count ms ≤ steps
@@ -269,11 +270,11 @@ mutual
   members_behind (member k d ms) levels line (suc steps) seen tail flat new few =
       let behind = members_behind_text ms tail in
       let text = (key_text true k ++ space ∷ (flow_text d ++ later_members_text ms)) ++ 125 ∷ tail in
-      let others = and_right (not (is_among k seen)) (are_apart d && members_apart (k ∷ seen) ms) new in
+      let others = (and_parts (not (is_among k seen)) (are_apart d && members_apart (k ∷ seen) ms) new).1 in
       members_next (flow_at levels line) k d (flow_marked d) (flow_members_marked ms) line steps seen (space ∷ text) behind tail
-      (flow_law d levels line behind (first_flat (depth d) (members_depth ms) levels flat) (and_left (are_apart d) (members_apart (k ∷ seen) ms) others) (members_end ms tail))
-      (not_false (is_among k seen) (and_left (not (is_among k seen)) (are_apart d && members_apart (k ∷ seen) ms) new))
-      (members_behind ms levels line steps (k ∷ seen) tail (rest_flat (depth d) (members_depth ms) levels flat) (and_right (are_apart d) (members_apart (k ∷ seen) ms) others)
+      (flow_law d levels line behind (first_flat (depth d) (members_depth ms) levels flat) (and_parts (are_apart d) (members_apart (k ∷ seen) ms) others).0 (members_end ms tail))
+      (not-true (is_among k seen) (and_parts (not (is_among k seen)) (are_apart d && members_apart (k ∷ seen) ms) new).0)
+      (members_behind ms levels line steps (k ∷ seen) tail (rest_flat (depth d) (members_depth ms) levels flat) (and_parts (are_apart d) (members_apart (k ∷ seen) ms) others).1
       (one_less (members_count ms) steps few))
       (leads_behind text (key_text true k ++ space ∷ (flow_text d ++ behind)) (member_whole (key_text true k) (flow_text d) (later_members_text ms) (125 ∷ tail))
       (key_opens k (space ∷ (flow_text d ++ behind))))

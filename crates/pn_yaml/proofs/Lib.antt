@@ -19,7 +19,6 @@ pub mod LineEnds
 pub mod Headers
 pub mod Exits
 pub mod Filling
-pub mod Tests
 pub mod Cutting
 pub mod Spacing
 pub mod Plains
@@ -33,8 +32,8 @@ pub mod Failing
 pub mod Shrinking
 pub mod Rounds
 pub mod Flows
-pub mod Steps
-pub mod Texts
+pub mod FlowStepLemmas
+pub mod SaysLemmas
 pub mod Outcomes
 pub mod ReadFacts
 pub mod Stable
@@ -42,5 +41,5 @@ pub mod FaultLines
 pub mod RowLines
 pub mod Fates
 pub mod BlockFates
-pub mod Fronts
+pub mod WholeLineLemmas
 pub mod Refusals

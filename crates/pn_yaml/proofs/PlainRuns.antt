@@ -7,7 +7,7 @@ use Rattle.std.proofs.lemmas.Bool.Decides.{nat_tests, same_from_decides}
 use Rattle.std.proofs.lemmas.Slice.Eq.{bytes_eq-Decides}
 use Rattle.pn_yaml.specs.Bytes.{space}
 use Rattle.pn_yaml.specs.PlainRun.{breaks_plain, stays_plain}
-use Rattle.pn_yaml.specs.Words.{begins_wrong, ends_wrong, holds_pair, is_one_of, is_shown, lower_case, lowered, may_be_plain}
+use Rattle.pn_yaml.specs.PrintedScalars.{begins_wrong, ends_wrong, holds_pair, is_one_of, is_shown, lower_case, lowered, may_be_plain}
 
 -- one byte more
 tally : (s x y f m a e h k n : Bool)

@@ -4,8 +4,10 @@ use Rattle.std.specs.Prelude.{◌==◌, ◌&&◌, ◌||◌, not, nat_lt, codes}
 use Rattle.std.specs.List.{list_all, list_any}
 use Rattle.std.proofs.lemmas.Bool.{true≢false, and_from, and_parts, or_parts, or_right, not-true, not_from_false, cond_both, ne_eqb}
 use Rattle.std.proofs.lemmas.List.Folds.{list_all-append}
+use Rattle.pn_text.proofs.Bytes.{other_byte}
+use Rattle.pn_text.proofs.Members.{all-append}
 use Rattle.pn_yaml.specs.Data.{Data, scalar, list, map, Items, no_items, item, Members, no_members, member}
-use Rattle.pn_yaml.specs.Words.{begins_wrong, digit_text, doubled, escaped, escaped_byte, holds_pair, is_control, is_one_of, is_plain, is_shown, may_be_plain, word_text}
+use Rattle.pn_yaml.specs.PrintedScalars.{begins_wrong, digit_text, doubled, escaped, escaped_byte, holds_pair, is_control, is_one_of, is_plain, is_shown, may_be_plain, word_text}
 use Rattle.pn_yaml.specs.Printing.{key_text, flow_text, items_text, later_items_text, members_text, later_members_text}
 use Rattle.pn_yaml.proofs.WordLaw.{Begins}
 
@@ -18,25 +20,19 @@ abbrev pub is_opening : ℕ → Bool
 is_opening b = (b == 34) || (b == 39) || (is_shown b && not (is_one_of (codes "-?:,[]{}#&*!|>'\"%@` ") b))
 
 -- a byte that passes a test isn't one that doesn't
-pub differs : (test : ℕ → Bool) (b c : ℕ) → test b ≡ true → test c ≡ false → (b == c) ≡ false
-differs test b c h g = ne_eqb b c (λ e. true≢false (sym h ∙ ap test e ∙ g))
-
 inline-from : (b : ℕ) → (b == 10) ≡ false → (b == 13) ≡ false → is_inline b ≡ true
 inline-from b e f = and_from _ _ (not_from_false _ e) (not_from_false _ f)
-
-pub all-append : (test : ℕ → Bool) (xs ys : List ℕ) → list_all test xs ≡ true → list_all test ys ≡ true → list_all test (xs ++ ys) ≡ true
-all-append test xs ys h g = list_all-append test xs ys ∙ and_from _ _ h g
 
 all-inline : (test : ℕ → Bool) (text : List ℕ) → test 10 ≡ false → test 13 ≡ false → list_all test text ≡ true → list_all is_inline text ≡ true
 all-inline test [] e f h = refl
 all-inline test (b ∷ rest) e f h =
     let p = and_parts (test b) (list_all test rest) h in
-    and_from _ _ (inline-from b (differs test b 10 p.0 e) (differs test b 13 p.0 f)) (all-inline test rest e f p.1)
+    and_from _ _ (inline-from b (other_byte test b 10 p.0 e) (other_byte test b 13 p.0 f)) (all-inline test rest e f p.1)
 
 control-inline : (b : ℕ) → is_control b ≡ false → is_inline b ≡ true
 control-inline b h =
     let g = not_from_false _ h in
-    inline-from b (differs (λ c. not (is_control c)) b 10 g refl) (differs (λ c. not (is_control c)) b 13 g refl)
+    inline-from b (other_byte (λ c. not (is_control c)) b 10 g refl) (other_byte (λ c. not (is_control c)) b 13 g refl)
 
 doubled-inline : (text : List ℕ) → list_any is_control text ≡ false → list_all is_inline (doubled text) ≡ true
 doubled-inline [] h = refl

@@ -4,13 +4,15 @@ use Rattle.std.specs.Prelude.{◌==◌, ◌&&◌, not}
 use Rattle.std.specs.List.{list_all}
 use Rattle.std.proofs.lemmas.Bool.{and_from, and_left, and_parts, cond-false, not-true}
 use Rattle.std.proofs.lemmas.List.Folds.{list_all-append}
+use Rattle.pn_text.proofs.Bytes.{other_byte}
+use Rattle.pn_text.proofs.Members.{all-append}
 use Rattle.pn_yaml.specs.Bytes.{space, starts}
 use Rattle.pn_yaml.specs.Data.{Data, scalar, list, map, Items, no_items, item, Members, no_members, member}
-use Rattle.pn_yaml.specs.Words.{word_text}
+use Rattle.pn_yaml.specs.PrintedScalars.{word_text}
 use Rattle.pn_yaml.specs.Printing.{Level, root, spread, dense, below, flow_text, gap, is_flow_key, item_text, items_lines, key_text, members_lines, printed, spaces, value_lines}
 use Rattle.pn_yaml.specs.Rows.{lines_of, numbered, onto_line, rows_of, unmarked, unreturned}
 use Rattle.pn_yaml.proofs.WordLaw.{Begins}
-use Rattle.pn_yaml.proofs.PrintedBytes.{is_inline, is_opening, all-append, differs, flow-inline, key-inline, word-inline, word-opens}
+use Rattle.pn_yaml.proofs.PrintedBytes.{is_inline, is_opening, flow-inline, key-inline, word-inline, word-opens}
 
 -- what stands behind a key's colon on its line
 abbrev pub value_front : Bool → Data → List ℕ
@@ -204,7 +206,7 @@ pub begins-append : (test : ℕ → Bool) (x y : List ℕ) → Begins test x →
 begins-append test x y h = record { first = h.first; later = h.later ++ y; whole = ap (λ z. z ++ y) h.whole; good = h.good }
 
 unmarked-opening : (text : List ℕ) → Begins is_opening text → unmarked text ≡ text
-unmarked-opening text h = ap unmarked h.whole ∙ unmarked-kept h.first h.later (differs is_opening h.first 239 h.good refl) ∙ sym h.whole
+unmarked-opening text h = ap unmarked h.whole ∙ unmarked-kept h.first h.later (other_byte is_opening h.first 239 h.good refl) ∙ sym h.whole
 
 pub key-opens : (k rest : List ℕ) → Begins is_opening (key_text false k ++ rest)
 key-opens k rest = begins-append is_opening (key_text false k) rest (begins-append is_opening (word_text false k false) (58 ∷ []) (word-opens false k false))

@@ -4,11 +4,12 @@ use Rattle.std.specs.Prelude.{◌==◌, ◌&&◌, ◌||◌, not}
 use Rattle.std.proofs.lemmas.Bool.{and_cases, and_left, and_right, both_ways, cond_both, cond-false, or_from, or_parts}
 use Rattle.pn_yaml.specs.Bytes.{space, starts, is_empty, indentation, unindented, is_blank, is_bare}
 use Rattle.pn_yaml.specs.Data.{Data}
-use Rattle.pn_yaml.specs.Words.{escaped, doubled, holds_pair, is_control, is_plain}
+use Rattle.pn_yaml.specs.PrintedScalars.{escaped, doubled, holds_pair, is_control, is_plain}
 use Rattle.pn_yaml.specs.Printing.{is_flow_key, item_text, key_text, spaces}
 use Rattle.pn_yaml.specs.Rows.{Row, ahead, content, is_marker, is_passed_over, is_three, met, numbered, row_indentation}
 use Rattle.std.specs.List.{list_any}
-use Rattle.pn_yaml.proofs.PrintedBytes.{is_opening, differs, plain-text}
+use Rattle.pn_text.proofs.Bytes.{other_byte}
+use Rattle.pn_yaml.proofs.PrintedBytes.{is_opening, plain-text}
 use Rattle.pn_yaml.proofs.PrintedLines.{key-opens, member_line, value_front}
 
 -- lines from this number on, and then more lines
@@ -49,20 +50,20 @@ pub record IsRow (indent : ℕ) (text : List ℕ) (row : Row) : Type 0 where
   pub comes : (rows : List Row) → ahead (row ∷ rows) ≡ Ok (row ∷ rows)
 
 first-shows : (row : Row) (b : ℕ) (rest : List ℕ) → content row ≡ b ∷ rest → is_ink b ≡ true → is_passed_over row ≡ false
-first-shows row b rest e h = ap (λ z. is_empty z || starts 35 z) e ∙ differs is_ink b 35 h refl
+first-shows row b rest e h = ap (λ z. is_empty z || starts 35 z) e ∙ other_byte is_ink b 35 h refl
 
 first-comes : (row : Row) (b : ℕ) (rest : List ℕ) → content row ≡ b ∷ rest → is_ink b ≡ true → is_marker row ≡ false → (rows : List Row) → ahead (row ∷ rows) ≡ Ok (row ∷ rows)
 first-comes row b rest e h m rows =
     ap met (cond-false (is_passed_over row) _ _ (first-shows row b rest e h))
-    ∙ cond-false (starts 9 (content row)) _ _ (ap (starts 9) e ∙ differs is_ink b 9 h refl)
+    ∙ cond-false (starts 9 (content row)) _ _ (ap (starts 9) e ∙ other_byte is_ink b 9 h refl)
     ∙ cond-false (is_marker row) _ _ m
 
 row-from : (n indent b : ℕ) (rest : List ℕ) → is_ink b ≡ true → is_marker (record { line = n; bytes = spaces indent ++ (b ∷ rest) }) ≡ false
     → IsRow indent (b ∷ rest) (record { line = n; bytes = spaces indent ++ (b ∷ rest) })
 row-from n indent b rest h m =
-    let e = spaces-off indent b rest (differs is_ink b 32 h refl) in
+    let e = spaces-off indent b rest (other_byte is_ink b 32 h refl) in
     record {
-      indented = spaces-before indent b rest (differs is_ink b 32 h refl);
+      indented = spaces-before indent b rest (other_byte is_ink b 32 h refl);
       shows = e;
       stays = first-shows (record { line = n; bytes = spaces indent ++ (b ∷ rest) }) b rest e h;
       comes = first-comes (record { line = n; bytes = spaces indent ++ (b ∷ rest) }) b rest e h m;
@@ -117,12 +118,12 @@ word-dots k front =
     (λ _. three-false 46 39 (((doubled k ++ 39 ∷ []) ++ 58 ∷ []) ++ front) refl))
 
 pub opening-ink : (b : ℕ) → is_opening b ≡ true → is_ink b ≡ true
-opening-ink b h = ap not (or_from _ _ (or_from _ _ (differs is_opening b 32 h refl) (differs is_opening b 35 h refl)) (differs is_opening b 9 h refl))
+opening-ink b h = ap not (or_from _ _ (or_from _ _ (other_byte is_opening b 32 h refl) (other_byte is_opening b 35 h refl)) (other_byte is_opening b 9 h refl))
 
 key-marker : (n indent : ℕ) (k front : List ℕ) → is_marker (record { line = n; bytes = spaces indent ++ (key_text false k ++ front) }) ≡ false
 key-marker n zero k front =
     let o = key-opens k front in
-    or_from _ _ (ap (is_three 45) o.whole ∙ three-false 45 o.first o.later (differs is_opening o.first 45 o.good refl)) (word-dots k front)
+    or_from _ _ (ap (is_three 45) o.whole ∙ three-false 45 o.first o.later (other_byte is_opening o.first 45 o.good refl)) (word-dots k front)
 key-marker n (suc indent) k front = indented-marker n (suc indent) (key_text false k ++ front) (omega arith)
 
 -- the line of a key

@@ -7,7 +7,7 @@ use Rattle.std.proofs.lemmas.Str.{encode_ascii}
 use Rattle.pn_yaml.specs.declared.fault.YamlFault.{YamlFault}
 use Rattle.pn_yaml.specs.Bytes.{starts}
 use Rattle.pn_yaml.specs.Scalars.{Word, bad, closed, go, single, quote, double, slash, quoted_at, with_bytes, turned, turn_of, digit_of, digit_turn, is_surrogate, on_some}
-use Rattle.pn_yaml.specs.Words.{doubled, digit_text, escaped, escaped_byte, is_control}
+use Rattle.pn_yaml.specs.PrintedScalars.{doubled, digit_text, escaped, escaped_byte, is_control}
 
 abbrev Read : Type 0
 Read = Result (Word × List ℕ) YamlFault

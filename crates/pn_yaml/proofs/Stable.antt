@@ -7,7 +7,7 @@ use Rattle.pn_yaml.specs.declared.fault.YamlFault.{YamlFault}
 use Rattle.pn_yaml.specs.declared.fault.YamlFault.TheVariants as fault
 use Rattle.pn_yaml.specs.Bytes.{space}
 use Rattle.pn_yaml.specs.Data.{Data, scalar, list, map, Items, no_items, item, Members, no_members, member}
-use Rattle.pn_yaml.specs.Words.{doubled, escaped, is_ambiguous, is_control, is_plain, may_be_plain, word_text}
+use Rattle.pn_yaml.specs.PrintedScalars.{doubled, escaped, is_ambiguous, is_control, is_plain, may_be_plain, word_text}
 use Rattle.pn_yaml.specs.Printing.{Level, root, below, flow_items_marked, flow_marked, flow_members_marked, flow_text, is_flow_key, item_marked, item_text, items_lines, items_marked, items_text, later_items_text, later_members_text, marked, members_lines, members_marked, members_text, printed, value_lines, value_marked}
 use Rattle.pn_yaml.specs.Blocks.{says, text_says}
 use Rattle.pn_yaml.specs.Laws.{IsPrintable}

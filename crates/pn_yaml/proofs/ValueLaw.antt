@@ -2,13 +2,14 @@
 use Rattle.std.proofs.Common.{◌≡◌, ◌<◌, ◌≤◌, ◌+◌, ℕ, zero, suc, Bool, true, false, List, [], ◌∷◌, ◌++◌, length, None, Ok, refl, sym, ap, ◌∙◌, arith, append-nil}
 use Rattle.std.specs.Prelude.{◌==◌, ◌&&◌, ◌||◌, nat_lt, if◌then◌else◌, bytes_eq, codes}
 use Rattle.std.proofs.lemmas.Bool.{true≢false, and_left, cond-false, cond-true, le-ltb, lt-ltb, or_from, or_left}
+use Rattle.pn_text.proofs.Bytes.{other_byte}
 use Rattle.pn_yaml.specs.declared.fault.Why.TheVariants as why
 use Rattle.pn_yaml.specs.declared.scalar.Place.TheVariants as place
 use Rattle.pn_yaml.specs.Bytes.{space, starts, is_empty, unindented, is_bare, is_blank, trimmed}
 use Rattle.pn_yaml.specs.Data.{Data, scalar, list, map, Items, no_items, item, Members, no_members, member, depth, are_apart}
 use Rattle.pn_yaml.specs.Laws.{PrintLaw}
 use Rattle.pn_yaml.specs.Outcome.{◌>>=◌}
-use Rattle.pn_yaml.specs.Words.{is_plain, word_text}
+use Rattle.pn_yaml.specs.PrintedScalars.{is_plain, word_text}
 use Rattle.pn_yaml.specs.Printing.{Level, root as at_root, below, flow_marked, flow_text, is_flow_key, item_text, items_marked, members_marked, printed, spaces}
 use Rattle.pn_yaml.specs.Scalars.{Word, plain_front, on_some, word_at}
 use Rattle.pn_yaml.specs.Flow.{flow_at, is_flow}
@@ -17,7 +18,7 @@ use Rattle.pn_yaml.specs.Blocks.{alone, block_at, block_items, block_members, en
 use Rattle.pn_yaml.proofs.Outcomes.{bind_ok}
 use Rattle.pn_yaml.proofs.WordLaw.{Begins, value_law}
 use Rattle.pn_yaml.proofs.FlowLaw.{flow_law}
-use Rattle.pn_yaml.proofs.PrintedBytes.{differs, is_opening, word-opens}
+use Rattle.pn_yaml.proofs.PrintedBytes.{is_opening, word-opens}
 use Rattle.pn_yaml.proofs.PrintedLines.{items_rows, key-opens, member_line, members_rows, printed-rows, root_rows, value_front, value_rows}
 use Rattle.pn_yaml.proofs.PrintedRows.{item-row, member-row, number_behind, numbered-rows, rows_on, three-false}
 use Rattle.pn_yaml.proofs.BlockLaw.{AreLower, ReadsItems, ReadsValues, ahead-members, behind_gap, items-back, items-fit, key-no_item, lower-more, members-back, members-fit, rows-behind}
@@ -36,21 +37,21 @@ no-style b rest h g =
 
 first-style : (b : ℕ) (rest : List ℕ) → is_opening b ≡ true → style_of (trimmed (plain_front place.Value (b ∷ rest))) ≡ None
 first-style b rest h =
-    let s = differs is_opening b 32 h refl in
+    let s = other_byte is_opening b 32 h refl in
     ap (λ z. style_of (trimmed z)) (cond-false ((b == 32) && starts 35 rest) [] (b ∷ plain_front place.Value rest) (and_left _ _ s))
     ∙ ap style_of (cond-false (is_blank (b ∷ plain_front place.Value rest)) [] (b ∷ trimmed (plain_front place.Value rest)) (ap is_empty (first-text b (plain_front place.Value rest) s)))
-    ∙ no-style b (trimmed (plain_front place.Value rest)) (differs is_opening b 124 h refl) (differs is_opening b 62 h refl)
+    ∙ no-style b (trimmed (plain_front place.Value rest)) (other_byte is_opening b 124 h refl) (other_byte is_opening b 62 h refl)
 
 -- behind a space, what begins as a printed scalar does is read as a scalar
 first-scalar : (levels : ℕ) (keyed : Bool) (b : ℕ) (rest : List ℕ) (row : Row) (rows : List Row) → is_opening b ≡ true
     → value_on (suc levels) keyed (space ∷ b ∷ rest) row rows ≡ scalar_on (b ∷ rest) row rows
 first-scalar levels keyed b rest row rows h =
-    let e = first-text b rest (differs is_opening b 32 h refl) in
-    let bare : is_bare (space ∷ b ∷ rest) ≡ false = or_from _ _ (ap is_empty e) (ap (starts 35) e ∙ differs is_opening b 35 h refl) in
+    let e = first-text b rest (other_byte is_opening b 32 h refl) in
+    let bare : is_bare (space ∷ b ∷ rest) ≡ false = or_from _ _ (ap is_empty e) (ap (starts 35) e ∙ other_byte is_opening b 35 h refl) in
     cond-false (is_bare (space ∷ b ∷ rest)) _ _ bare
     ∙ ap (λ t. if is_flow t then (flow_at (suc levels) row.line t >>= (λ f. ending why.Flow row.line f.0 f.1 rows))
     else on_some (style_of (trimmed (plain_front place.Value t))) (λ s. scalar_block s (row_indentation row) rows) (scalar_on t row rows)) e
-    ∙ cond-false (is_flow (b ∷ rest)) _ _ (or_from _ _ (differs is_opening b 91 h refl) (differs is_opening b 123 h refl))
+    ∙ cond-false (is_flow (b ∷ rest)) _ _ (or_from _ _ (other_byte is_opening b 91 h refl) (other_byte is_opening b 123 h refl))
     ∙ ap (λ o. on_some o (λ s. scalar_block s (row_indentation row) rows) (scalar_on (b ∷ rest) row rows)) (first-style b rest h)
 
 opening-scalar : (levels : ℕ) (keyed : Bool) (text : List ℕ) (row : Row) (rows : List Row) → Begins is_opening text
@@ -164,9 +165,9 @@ text-back k d ms flat apart =
     let lines : rows_of (printed (map (member k d ms))) ≡ first ∷ rows = printed-rows k d ms ∙ numbered-rows (root_rows k d ms) 1 in
     let ahead_of : first_ahead (first ∷ rows) ≡ Ok (first ∷ rows) =
     ap (λ z. ahead (unopened z)) (cond-false (is_passed_over first) _ _ r.stays)
-    ∙ ap ahead (cond-false (is_three 45 first.bytes) _ _ (ap (is_three 45) o.whole ∙ three-false 45 o.first o.later (differs is_opening o.first 45 o.good refl)))
+    ∙ ap ahead (cond-false (is_three 45 first.bytes) _ _ (ap (is_three 45) o.whole ∙ three-false 45 o.first o.later (other_byte is_opening o.first 45 o.good refl)))
     ∙ r.comes rows in
-    let flow : is_flow first.bytes ≡ false = ap is_flow o.whole ∙ or_from _ _ (differs is_opening o.first 91 o.good refl) (differs is_opening o.first 123 o.good refl) in
+    let flow : is_flow first.bytes ≡ false = ap is_flow o.whole ∙ or_from _ _ (other_byte is_opening o.first 91 o.good refl) (other_byte is_opening o.first 123 o.good refl) in
     bind_ok (first_ahead (rows_of (printed (map (member k d ms))))) (first ∷ rows) root (ap first_ahead lines ∙ ahead_of)
     ∙ ap alone (cond-false (nat_lt 0 (row_indentation first)) _ _ (le-ltb 0 (row_indentation first) (let e = r.indented in omega arith))
     ∙ cond-false (is_flow first.bytes) _ _ flow

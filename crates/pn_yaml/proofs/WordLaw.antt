@@ -2,7 +2,7 @@
 use Rattle.std.proofs.Common.{◌≡◌, ℕ, Bool, true, false, List, [], ◌∷◌, ◌++◌, Ok, Result, refl, sym, ap, ◌∙◌, inl, inr, append_assoc, append-nil}
 use Rattle.std.specs.Prelude.{◌==◌, not, codes, if◌then◌else◌}
 use Rattle.std.specs.List.{list_any}
-use Rattle.std.proofs.lemmas.Bool.{cases_Bool, eqb-true}
+use Rattle.std.proofs.lemmas.Bool.{and_parts, cases_Bool, eqb-true}
 use Rattle.pn_yaml.specs.declared.fault.Why.TheVariants as why
 use Rattle.pn_yaml.specs.declared.fault.YamlFault.{YamlFault}
 use Rattle.pn_yaml.specs.declared.scalar.Place.{Place}
@@ -11,9 +11,9 @@ use Rattle.pn_yaml.specs.Bytes.{starts, tail_of, ends_word}
 use Rattle.pn_yaml.specs.Outcome.{◌>>=◌, wrong}
 use Rattle.pn_yaml.specs.Scalars.{Word, double, ends_plain, is_colon, plain_at, quoted_at, single, word_at}
 use Rattle.pn_yaml.specs.Blocks.{key_at}
-use Rattle.pn_yaml.specs.Words.{begins_wrong, doubled, escaped, is_control, is_one_of, is_plain, may_be_plain, word_text}
+use Rattle.pn_yaml.specs.PrintedScalars.{begins_wrong, doubled, escaped, is_control, is_one_of, is_plain, may_be_plain, word_text}
 use Rattle.pn_yaml.specs.Printing.{key_text}
-use Rattle.pn_yaml.proofs.ByteTests.{and_left, apart, fewer}
+use Rattle.pn_yaml.proofs.ByteTests.{apart, fewer}
 use Rattle.pn_yaml.proofs.PlainLaw.{in_flow, may_end, plain_read, plain_text}
 use Rattle.pn_yaml.proofs.QuotedLaw.{doubled_read, escaped_read}
 
@@ -53,7 +53,7 @@ pub record Begins (test : ℕ → Bool) (text : List ℕ) : Type 0 where
   pub good : test first ≡ true
 
 begun : (flow : Bool) (text : List ℕ) (plain : Bool) → is_plain flow text plain ≡ true → begins_wrong text ≡ false
-begun flow text plain h = let t = plain_text flow text (and_left (may_be_plain flow text) _ h) in t.begun
+begun flow text plain h = let t = plain_text flow text (and_parts (may_be_plain flow text) _ h).0 in t.begun
 
 plain_begins : (text : List ℕ) → begins_wrong text ≡ false → Begins opens_word text
 plain_begins [] h = cc
@@ -98,7 +98,7 @@ word_law p line text plain tail ends =
     elim (form_of (in_flow p) text plain) [
       | bare e w ↦
           ap (λ y. word_at p line (y ++ tail)) w ∙ unquoted p line text tail (begun (in_flow p) text plain e)
-          ∙ plain_read p line text tail (plain_text (in_flow p) text (and_left (may_be_plain (in_flow p) text) _ e)) ends ∙ ap read (sym e)
+          ∙ plain_read p line text tail (plain_text (in_flow p) text (and_parts (may_be_plain (in_flow p) text) _ e).0) ends ∙ ap read (sym e)
       | with_double e w ↦
           ap (λ y. word_at p line (y ++ tail)) w ∙ ap (λ y. quoted_at line double y) (append_assoc (escaped text) (34 ∷ []) tail)
           ∙ escaped_read line text tail ∙ ap read (sym e)

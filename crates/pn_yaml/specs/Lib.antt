@@ -1,13 +1,13 @@
 pub mod Data
 pub mod View
 pub mod Outcome
-pub mod Texts
+pub mod WhyTexts
 pub mod Bytes
 pub mod Scalars
 pub mod Flow
 pub mod Rows
 pub mod Blocks
-pub mod Words
+pub mod PrintedScalars
 pub mod Printing
 pub mod Laws
 pub mod Samples

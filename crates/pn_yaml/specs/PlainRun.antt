@@ -1,7 +1,7 @@
 -- How a text's form is tested in one pass.
 use Rattle.std.specs.Prelude.{ℕ, nat_le, ◌==◌, ◌&&◌, ◌||◌, Bool, false, not, List, [], ◌∷◌, codes, if◌then◌else◌}
 use Rattle.pn_yaml.specs.Bytes.{space}
-use Rattle.pn_yaml.specs.Words.{is_one_of, is_shown}
+use Rattle.pn_yaml.specs.PrintedScalars.{is_one_of, is_shown}
 
 -- a byte behind another one that keeps a text from being plain
 abbrev pub breaks_plain : Bool → ℕ → ℕ → Bool

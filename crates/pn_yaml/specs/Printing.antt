@@ -2,7 +2,7 @@
 use Rattle.std.specs.Prelude.{ℕ, zero, suc, ◌+◌, ◌||◌, Bool, true, false, List, [], ◌∷◌, ◌++◌, if◌then◌else◌, bytes_eq, codes}
 use Rattle.pn_yaml.specs.Bytes.{space}
 use Rattle.pn_yaml.specs.Data.{Data, scalar, list, map, Items, no_items, item, Members, no_members, member}
-use Rattle.pn_yaml.specs.Words.{word_text, is_plain}
+use Rattle.pn_yaml.specs.PrintedScalars.{word_text, is_plain}
 
 abbrev pub key_text : Bool → List ℕ → List ℕ
 key_text flow key = word_text flow key false ++ 58 ∷ []

@@ -33,6 +33,4 @@ pub use print_block::print;
 pub use reading::read;
 
 #[cfg(test)]
-mod print_tests;
-#[cfg(test)]
-mod read_tests;
+mod tests;

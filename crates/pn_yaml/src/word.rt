@@ -3,7 +3,7 @@ ghost use Rattle.std.specs.Prelude.{◌≡◌, ◌==◌, ◌<◌, [], ◌∷◌,
 ghost use Rattle.std.specs.List.{count_by, list_any};
 ghost use Rattle.std.specs.Str.{is_utf8};
 ghost use Rattle.pn_yaml.specs.PlainRun.{begins_number, breaks_plain, stays_plain};
-ghost use Rattle.pn_yaml.specs.Words.{begins_wrong, is_shown, may_be_plain, lower_case, is_keyword, is_numeric, is_ambiguous, is_plain, is_control, doubled, digit_text, escaped_byte, escaped, word_text};
+ghost use Rattle.pn_yaml.specs.PrintedScalars.{begins_wrong, is_shown, may_be_plain, lower_case, is_keyword, is_numeric, is_ambiguous, is_plain, is_control, doubled, digit_text, escaped_byte, escaped, word_text};
 
 use pn_text::Memory;
 

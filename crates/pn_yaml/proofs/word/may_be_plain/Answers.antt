@@ -1,5 +1,5 @@
 use Rattle.std.proofs.Common.{◌≡◌, false, ◌∙◌}
-use Rattle.pn_yaml.specs.Words.{begins_wrong}
+use Rattle.pn_yaml.specs.PrintedScalars.{begins_wrong}
 use Rattle.pn_yaml.proofs.PlainRuns.{plain_run}
 use Rattle.pn_yaml.proofs.word.may_be_plain.Goals as goal
 

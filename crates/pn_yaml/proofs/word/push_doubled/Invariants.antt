@@ -1,5 +1,5 @@
 use Rattle.std.proofs.Common.{◌≡◌, ◌++◌, drop}
-use Rattle.pn_yaml.specs.Words.{doubled}
+use Rattle.pn_yaml.specs.PrintedScalars.{doubled}
 use Rattle.pn_yaml.proofs.word.push_doubled.Given as goal
 
 abbrev pub invariant-loop-b : goal.invariant-loop-b

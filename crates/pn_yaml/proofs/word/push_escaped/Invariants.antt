@@ -1,5 +1,5 @@
 use Rattle.std.proofs.Common.{◌≡◌, ◌++◌, drop}
-use Rattle.pn_yaml.specs.Words.{escaped}
+use Rattle.pn_yaml.specs.PrintedScalars.{escaped}
 use Rattle.pn_yaml.proofs.word.push_escaped.Given as goal
 
 abbrev pub invariant-loop-b : goal.invariant-loop-b

@@ -1,7 +1,7 @@
 use Rattle.std.proofs.Common.{◌≡◌, ◌++◌, rules}
 use Rattle.std.specs.Prelude.{OnOk}
 use Rattle.std.proofs.lemmas.Result.{on_ok_weaker}
-use Rattle.pn_yaml.specs.Words.{word_text}
+use Rattle.pn_yaml.specs.PrintedScalars.{word_text}
 use Rattle.pn_yaml.proofs.PrintedUtf8.{word_kept}
 use Rattle.pn_yaml.proofs.word.push_word.Goals as goal
 
