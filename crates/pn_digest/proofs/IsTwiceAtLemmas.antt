@@ -1,14 +1,14 @@
 -- The first path that stands twice.
 use Rattle.std.proofs.Common.{◌≡◌, ℕ, ◌+◌, ◌<◌, ◌≤◌, List, length, get_or, refl, sym, ap, ◌∙◌, subst, arith, Bool, true, false, cond, inl, inr, Some}
-use Rattle.std.specs.Prelude.{◌⊎◌, ◌↔◌, ◌||◌, IsTrue, nat_lt, not, slice_get}
+use Rattle.std.specs.Prelude.{◌⊎◌, ◌↔◌, ◌||◌, IsTrue, nat_lt, slice_get}
 use Rattle.std.specs.Str.{bytes_eq}
 use Rattle.std.proofs.lemmas.Slice.Eq.{bytes_eq-Decides}
 use Rattle.pn_digest.specs.Listing.{Entry, IsRelPath, rel_text}
 use Rattle.pn_digest.specs.ListingFaults.{IsTwiceAt, IsFirst, IsNowhere}
-use Rattle.pn_digest.proofs.Bad.{each_more, below, last, opposite}
-use Rattle.pn_digest.proofs.Elements.{at_place, one_at, within_at}
-use Rattle.pn_digest.proofs.Fronts.{or_cond, or_cases, or_right}
-use Rattle.pn_digest.proofs.RelPaths.{same_rel}
+use Rattle.pn_digest.proofs.IsBadAtLemmas.{each_more, below, last}
+use Rattle.pn_digest.proofs.PlaceLemmas.{at_place, one_at, within_at}
+use Rattle.pn_digest.proofs.IsRelPathLemmas.{same_rel}
+use Rattle.pn_text.proofs.Bools.{or_cases, or_cond, or_right, true_false}
 
 -- a path before i has this text
 abbrev pub IsTextBefore : List Entry → ℕ → List ℕ → Type 0
@@ -38,7 +38,7 @@ module _ (files : List Entry) (has : List ℕ → Bool) (i : ℕ) (x : Entry) (b
   not_twice new t =
       let same : x ≡ (t.path, t.digest) = one_at files i x (t.path, t.digest) here t.stands in
       let text : rel_text t.path ≡ rel_text x.0 = ap (λ (z : Entry). rel_text z.0) (sym same) in
-      opposite (has (rel_text x.0)) ((before.exact (rel_text x.0)).1 (t.place, (t.path, t.digest_there), t.earlier, t.stands_there, text)) new
+      true_false (has (rel_text x.0)) ((before.exact (rel_text x.0)).1 (t.place, (t.path, t.digest_there), t.earlier, t.stands_there, text)) new
 
   pub none_twice_more : (has' : List ℕ → Bool) → has (rel_text x.0) ≡ false → ((t : List ℕ) → has' t ≡ cond (bytes_eq (rel_text x.0) t) true (has t)) → NoneTwice files has' (i + 1)
   none_twice_more has' new adds = record {
@@ -83,11 +83,3 @@ pub twice_nowhere : (files : List Entry) (has : List ℕ → Bool) (i : ℕ) →
 twice_nowhere files has i end before k t =
     let within = within_at files k (t.path, t.digest) t.stands in
     before.none k (omega (arith, within)) t
-
-pub not_false : (b : Bool) → not b ≡ false → b ≡ true
-not_false true h = refl
-not_false false h = sym h
-
-pub not_true : (b : Bool) → not b ≡ true → b ≡ false
-not_true true h = sym h
-not_true false h = refl

@@ -7,27 +7,23 @@ use Rattle.std.proofs.lemmas.List.Elements.{Contains-push_cases}
 use Rattle.hex.specs.Hex.{encode_lower}
 use Rattle.pn_digest.specs.Listing.{Entry, IsEntry, rel_text, has_feed, line_text, listing_text, ListingLaw}
 use Rattle.pn_digest.specs.Lines.{AreEntries, AreFileLines, BeginsWithFile, TakesFile, IsCut, IsFileLine}
-use Rattle.pn_digest.proofs.Elements.{here, there}
-use Rattle.pn_digest.proofs.HexTexts.{length-hex, one_hex, no_feed_hex, both_false, right_false}
-use Rattle.pn_digest.proofs.RelPaths.{same_rel}
-
-head_same : (x y : ℕ) (xs ys : List ℕ) → x ∷ xs ≡ y ∷ ys → x ≡ y
-head_same x y xs ys e = cc
-
-tail_same : (x y : ℕ) (xs ys : List ℕ) → x ∷ xs ≡ y ∷ ys → xs ≡ ys
-tail_same x y xs ys e = cc
+use Rattle.pn_digest.proofs.IsDigestLemmas.{length-hex, one_hex, no_feed_hex}
+use Rattle.pn_digest.proofs.IsRelPathLemmas.{same_rel}
+use Rattle.pn_text.proofs.Members.{here, there}
+use Rattle.pn_text.proofs.Bools.{both_false, right_false}
+use Rattle.pn_text.proofs.Bytes.{same_first, same_rest}
 
 feed_front : (x : ℕ) (xs : List ℕ) → x ≡ 10 → has_feed (x ∷ xs) ≡ false → ⊥
 feed_front x xs e h = let f : true ≡ false = sym (ap (λ y. has_feed (y ∷ xs)) e) ∙ h in cc
 
 -- a text is cut in one way at its first line feed
 pub cut_same : (a b r s : List ℕ) → has_feed a ≡ false → has_feed b ≡ false → a ++ 10 ∷ r ≡ b ++ 10 ∷ s → (a ≡ b) × (r ≡ s)
-cut_same [] [] r s fa fb e = (refl, tail_same 10 10 r s e)
-cut_same [] (y ∷ b) r s fa fb e = absurd (feed_front y b (sym (head_same 10 y r (b ++ 10 ∷ s) e)) fb)
-cut_same (x ∷ a) [] r s fa fb e = absurd (feed_front x a (head_same x 10 (a ++ 10 ∷ r) s e) fa)
+cut_same [] [] r s fa fb e = (refl, same_rest 10 10 r s e)
+cut_same [] (y ∷ b) r s fa fb e = absurd (feed_front y b (sym (same_first 10 y r (b ++ 10 ∷ s) e)) fb)
+cut_same (x ∷ a) [] r s fa fb e = absurd (feed_front x a (same_first x 10 (a ++ 10 ∷ r) s e) fa)
 cut_same (x ∷ a) (y ∷ b) r s fa fb e =
-    let same = cut_same a b r s (right_false (x == 10) (has_feed a) fa) (right_false (y == 10) (has_feed b) fb) (tail_same x y (a ++ 10 ∷ r) (b ++ 10 ∷ s) e) in
-    let first : x ≡ y = head_same x y (a ++ 10 ∷ r) (b ++ 10 ∷ s) e in
+    let same = cut_same a b r s (right_false (x == 10) (has_feed a) fa) (right_false (y == 10) (has_feed b) fb) (same_rest x y (a ++ 10 ∷ r) (b ++ 10 ∷ s) e) in
+    let first : x ≡ y = same_first x y (a ++ 10 ∷ r) (b ++ 10 ∷ s) e in
     (λ i. first i ∷ same.0 i, same.1)
 
 -- two fronts of one length
@@ -36,8 +32,8 @@ parts_same [] [] p q len e = (refl, e)
 parts_same [] (y ∷ b) p q len e = absurd (omega (arith, len))
 parts_same (x ∷ a) [] p q len e = absurd (omega (arith, len))
 parts_same (x ∷ a) (y ∷ b) p q len e =
-    let same = parts_same a b p q (omega (arith, len)) (tail_same x y (a ++ p) (b ++ q) e) in
-    let first : x ≡ y = head_same x y (a ++ p) (b ++ q) e in
+    let same = parts_same a b p q (omega (arith, len)) (same_rest x y (a ++ p) (b ++ q) e) in
+    let first : x ≡ y = same_first x y (a ++ p) (b ++ q) e in
     (λ i. first i ∷ same.0 i, same.1)
 
 pub no_feed_line : (e : Entry) → IsEntry e → has_feed (line_text e) ≡ false
@@ -49,7 +45,7 @@ pub line_one : (a b : Entry) → IsEntry a → IsEntry b → line_text a ≡ lin
 line_one a b ia ib e =
     let same = parts_same (encode_lower a.1) (encode_lower b.1) (32 ∷ rel_text a.0) (32 ∷ rel_text b.0) (length-hex a.1 ia.digest ∙ sym (length-hex b.1 ib.digest)) e in
     let digest : a.1 ≡ b.1 = one_hex a.1 b.1 ia.digest ib.digest same.0 in
-    let path : a.0 ≡ b.0 = same_rel a.0 b.0 ia.path ib.path (tail_same 32 32 (rel_text a.0) (rel_text b.0) same.1) in
+    let path : a.0 ≡ b.0 = same_rel a.0 b.0 ia.path ib.path (same_rest 32 32 (rel_text a.0) (rel_text b.0) same.1) in
     λ i. (path i, digest i)
 
 not_empty : (a r : List ℕ) → [] ≡ a ++ 10 ∷ r → ⊥

@@ -5,11 +5,9 @@ use Rattle.hex.specs.Hex.{encode_lower}
 use Rattle.pn_digest.specs.Digests.{IsDigest}
 use Rattle.pn_digest.specs.Listing.{rel_text}
 use Rattle.pn_digest.specs.Lines.{HasParts, IsFileLine, IsPathText}
-use Rattle.pn_digest.proofs.HexTexts.{length-hex}
-use Rattle.pn_digest.proofs.LineTexts.{parts_same}
-
-tail_same : (x y : ℕ) (xs ys : List ℕ) → x ∷ xs ≡ y ∷ ys → xs ≡ ys
-tail_same x y xs ys e = cc
+use Rattle.pn_digest.proofs.IsDigestLemmas.{length-hex}
+use Rattle.pn_digest.proofs.ListingTextLemmas.{parts_same}
+use Rattle.pn_text.proofs.Bytes.{same_rest}
 
 -- a file's line has the digits and the path's text
 pub file_parts : (line : List ℕ) → (f : IsFileLine line) → HasParts line (encode_lower f.0.1) (rel_text f.0.0)
@@ -32,4 +30,4 @@ no_digits line digits path h exact f = none_some f.0.1 ((exact f.0.1).1 ((parts_
 
 pub its_path : (line digits path : List ℕ) → HasParts line digits path → IsFileLine line → IsPathText path
 its_path line digits path h f =
-    (f.0.0, f.1.path, tail_same 32 32 path (rel_text f.0.0) (parts_are line digits path h f).1)
+    (f.0.0, f.1.path, same_rest 32 32 path (rel_text f.0.0) (parts_are line digits path h f).1)

@@ -1,22 +1,24 @@
 -- Relative paths and their texts.
-use Rattle.std.proofs.Common.{◌≡◌, ℕ, ◌≤◌, List, [], ◌∷◌, ◌++◌, length, drop, refl, sym, ap, ◌∙◌, subst, append_assoc, append-nil, true}
+use Rattle.std.proofs.Common.{◌≡◌, ℕ, ◌≤◌, List, [], ◌∷◌, ◌++◌, length, drop, refl, sym, ap, ◌∙◌, subst, true}
 use Rattle.std.specs.Prelude.{IsUtf8, ◌==◌, if◌then◌else◌, false}
 use Rattle.std.specs.Str.{is_utf8}
 use Rattle.std.proofs.lemmas.Str.{is_utf8-from_IsUtf8}
+use Rattle.pn_text.specs.declared.limits.TheConstants.{PATH_LIMIT}
 use Rattle.pn_text.specs.Path.{Path, text_below, parts_from, tail_of, SpellsParts}
 use Rattle.pn_text.proofs.Paths.{tail_of-spelled, parts_from-append, parts_from-text_below}
 use Rattle.pn_text.proofs.Splits.{parts_from-below}
 use Rattle.pn_digest.specs.Listing.{rel_text, IsRelPath}
+use Rattle.pn_text.proofs.Joins.{below_begins, text_below-append}
 
 pub rel_is : (text : List ℕ) (p : Path) → SpellsParts text p → text ≡ rel_text p
 rel_is text p s = ap (drop 1) s.spelled
 
 -- a text that spells a path is that path's
-pub is_rel : (text : List ℕ) (p : Path) → SpellsParts text p → length text ≤ 4096 → IsUtf8 text → IsRelPath p
+pub is_rel : (text : List ℕ) (p : Path) → SpellsParts text p → length text ≤ PATH_LIMIT → IsUtf8 text → IsRelPath p
 is_rel text p s short utf8 = let e = rel_is text p s in
     record {
       spelled = subst (λ t. SpellsParts t p) e s;
-      short = subst (λ t. length t ≤ 4096) e short;
+      short = subst (λ t. length t ≤ PATH_LIMIT) e short;
       utf8 = ap is_utf8 (sym e) ∙ is_utf8-from_IsUtf8 text utf8;
     }
 
@@ -46,18 +48,10 @@ goes_on p q rest a b e =
     let some = some_parts rest [] [] in
     (some.0, some.1, below ∙ ap (λ z. z ++ p) some.2)
 
-text_below-append : (q p : Path) → text_below (q ++ p) ≡ text_below p ++ text_below q
-text_below-append [] p = sym (append-nil (text_below p))
-text_below-append (x ∷ q) p = ap (λ t. t ++ 47 ∷ x) (text_below-append q p) ∙ append_assoc (text_below p) (text_below q) (47 ∷ x)
-
-begins : (x : List ℕ) (s : Path) → (rest : List ℕ) × (text_below (x ∷ s) ≡ 47 ∷ rest)
-begins x [] = (x, refl)
-begins x (y ∷ s) = let b = begins y s in (b.0 ++ 47 ∷ x, ap (λ t. t ++ 47 ∷ x) b.1)
-
 -- and the text of a path below another one goes on so
 pub text_goes_on : (p : Path) (x : List ℕ) (s : Path) → IsRelPath p → (rest : List ℕ) × (rel_text (x ∷ s ++ p) ≡ rel_text p ++ 47 ∷ rest)
 text_goes_on p x s a =
-    let b = begins x s in
+    let b = below_begins x s in
     let whole : text_below (x ∷ s ++ p) ≡ 47 ∷ (rel_text p ++ 47 ∷ b.0) =
     text_below-append (x ∷ s) p ∙ ap (λ t. text_below p ++ t) b.1 ∙ ap (λ t. t ++ 47 ∷ b.0) (sym a.spelled.spelled) in
     (b.0, ap (drop 1) whole)

@@ -1,5 +1,5 @@
 -- The first path that no listing may have.
-use Rattle.std.proofs.Common.{◌≡◌, ℕ, ◌+◌, ◌<◌, ◌≤◌, List, ◌∷◌, ◌++◌, length, take, get_or, refl, sym, ◌∙◌, subst, arith, Bool, true, false, inl, inr}
+use Rattle.std.proofs.Common.{◌≡◌, ℕ, ◌+◌, ◌<◌, ◌≤◌, List, ◌∷◌, ◌++◌, length, take, get_or, refl, sym, subst, arith, Bool, true, false, inl, inr}
 use Rattle.std.specs.Prelude.{◌⊎◌, nat_lt}
 use Rattle.std.specs.List.{Contains}
 use Rattle.std.proofs.lemmas.List.{take_all}
@@ -8,8 +8,10 @@ use Rattle.pn_digest.specs.Digests.{IsDigest}
 use Rattle.pn_digest.specs.Listing.{Entry, IsRelPath, IsEntry, rel_text, has_feed}
 use Rattle.pn_digest.specs.ListingFaults.{IsBadAt, IsFirst, IsNowhere, HasBelow}
 use Rattle.pn_digest.specs.Folders.{HasFolders}
-use Rattle.pn_digest.proofs.Elements.{none_in, in_front_more, at_place, one_at, within_at}
-use Rattle.pn_digest.proofs.RelPaths.{goes_on, text_goes_on}
+use Rattle.pn_digest.proofs.PlaceLemmas.{in_front_more, at_place, one_at, within_at}
+use Rattle.pn_digest.proofs.IsRelPathLemmas.{goes_on, text_goes_on}
+use Rattle.pn_text.proofs.Members.{none_in}
+use Rattle.pn_text.proofs.Bools.{true_false}
 
 -- No path before this place is bad.
 pub record NoneBad (files : List Entry) (i : ℕ) : Type 0 where
@@ -32,9 +34,6 @@ each_more P i none here k lt p = elim (nat_lt k i) as (λ b. nat_lt k i ≡ b �
   | false ↦ λ e. here (subst P (last k i e lt) p)
 ] refl
 
-pub opposite : (b : Bool) → b ≡ true → b ≡ false → ⊥
-opposite b t f = let e : true ≡ false = sym t ∙ f in cc
-
 pub none_bad_more : (files : List Entry) (has : List ℕ → Bool) (i : ℕ) (x : Entry) → HasFolders files has → NoneBad files i → i < length files → x ≡ get_or files i x → IsRelPath x.0 → IsDigest x.1
     → has_feed (rel_text x.0) ≡ false → has (rel_text x.0) ≡ false → NoneBad files (i + 1)
 none_bad_more files has i x folders before within is path digest line apart = record {
@@ -48,13 +47,13 @@ none_bad_more files has i x folders before within is path digest line apart = re
     above : HasBelow files x.0 → ⊥
     above b =
         let r = text_goes_on x.0 b.part b.down path in
-        opposite (has (rel_text x.0)) ((folders.exact (rel_text x.0)).1 ((b.part ∷ b.down ++ x.0, b.digest), b.stands, r)) apart
+        true_false (has (rel_text x.0)) ((folders.exact (rel_text x.0)).1 ((b.part ∷ b.down ++ x.0, b.digest), b.stands, r)) apart
 
     here : IsBadAt files i → ⊥
     here bad =
         let same : x ≡ bad.entry = one_at files i x bad.entry (at_place files i x within is) bad.stands in
         elim bad.bad [
-          | inl f ↦ opposite (has_feed (rel_text x.0)) (subst (λ (z : Entry). has_feed (rel_text z.0) ≡ true) (sym same) f) line
+          | inl f ↦ true_false (has_feed (rel_text x.0)) (subst (λ (z : Entry). has_feed (rel_text z.0) ≡ true) (sym same) f) line
           | inr b ↦ above (subst (λ (z : Entry). HasBelow files z.0) (sym same) b)
         ]
 

@@ -3,6 +3,7 @@ use Rattle.std.proofs.Common.{◌≡◌, ℕ, ◌≤◌, List, [], ◌∷◌, �
 use Rattle.std.specs.Prelude.{IsUtf8, ◌==◌}
 use Rattle.std.specs.List.{list_any}
 use Rattle.std.proofs.lemmas.Str.{IsUtf8-from_is_utf8}
+use Rattle.pn_text.specs.declared.limits.TheConstants.{PATH_LIMIT}
 use Rattle.pn_text.specs.Path.{Path, is_path, is_part, is_flat, is_filled, text_below, parts_from, IsPartsEnd, SpellsParts, HasBadPart}
 use Rattle.pn_text.specs.Faults.{RelFault}
 use Rattle.pn_text.specs.declared.fault.PathFault.{PathFault}
@@ -48,7 +49,7 @@ not_rel : (text : List ℕ) (fault : PathFault) → RelFault text fault → Unle
 not_rel text NotAbsolute fault = absurd fault
 not_rel text (BadPart at) fault = λ t. no_bad_part text at t.0 fault (subst (λ z. SpellsParts z t.0) (sym t.2) t.1.spelled)
 not_rel text Long fault = λ t.
-    let short = subst (λ z. length z ≤ 4096) (sym t.2) t.1.short in
+    let short = subst (λ z. length z ≤ PATH_LIMIT) (sym t.2) t.1.short in
     omega (arith, fault.2, short)
 not_rel text Memory fault = tt
 

@@ -1,5 +1,5 @@
 -- Files that make a listing, and files that make none.
-use Rattle.std.proofs.Common.{◌≡◌, ℕ, List, [], ◌∷◌, ◌++◌, refl, sym, ap, arith, Bool, true, false, inl, inr, Some}
+use Rattle.std.proofs.Common.{◌≡◌, ℕ, List, [], ◌∷◌, ◌++◌, refl, sym, ap, arith, false, inl, inr, Some}
 use Rattle.std.specs.Prelude.{slice_get, zero, suc}
 use Rattle.std.specs.Ordering.{is_lt}
 use Rattle.std.specs.Cmp.Lexicographic.{nat_list_eq_equiv}
@@ -12,10 +12,12 @@ use Rattle.std.proofs.lemmas.Slice.Eq.{bytes_eq-Decides}
 use Rattle.pn_text.specs.Path.{Path}
 use Rattle.pn_digest.specs.Listing.{Entry, IsEntry, IsListing, IsRising, AreApart, IsRelPath, rel_text, has_feed}
 use Rattle.pn_digest.specs.ListingFaults.{IsBadAt, IsTwiceAt, IsNowhere}
-use Rattle.pn_digest.proofs.Bad.{opposite}
-use Rattle.pn_digest.proofs.Elements.{here, there, at_place, within_at}
-use Rattle.pn_digest.proofs.RelPaths.{same_rel}
-use Rattle.pn_digest.proofs.Rising.{path_cmp, same_text, rising_from_sorted}
+use Rattle.pn_digest.proofs.PlaceLemmas.{at_place, within_at}
+use Rattle.pn_digest.proofs.IsRelPathLemmas.{same_rel}
+use Rattle.pn_digest.proofs.IsRisingLemmas.{path_cmp, same_text, rising_from_sorted}
+use Rattle.pn_text.proofs.Members.{here, there}
+use Rattle.pn_text.proofs.Bools.{true_false}
+use Rattle.std.proofs.lemmas.Bool.{false_from_ne_true}
 
 -- what is in a list stands at a place
 place_of : (files : List Entry) (e : Entry) → Contains files e → (k : ℕ) × (slice_get files k ≡ Some e)
@@ -33,10 +35,6 @@ apart files none (x ∷ s) p d d' a b =
 all_in : (P : Entry → Type 0) (es : List Entry) → ((e : Entry) → Contains es e → P e) → AllByRecursion P es
 all_in P [] h = tt
 all_in P (e ∷ es) h = (h e (here e es), all_in P es (λ f i. h f (there e es f i)))
-
-not_same : (b : Bool) → (b ≡ true → ⊥) → b ≡ false
-not_same true h = absurd (h refl)
-not_same false h = refl
 
 twice_later : (x : Entry) (xs : List Entry) (k : ℕ) → IsTwiceAt xs k → IsTwiceAt (x ∷ xs) (suc k)
 twice_later x xs k t = record {
@@ -65,7 +63,7 @@ pub distinct : (files : List Entry) → ((e : Entry) → Contains files e → Is
 unfolding IsDistinct
 distinct [] good none = tt
 distinct (x ∷ xs) good none = (
-  all_in (λ y. same_text x y ≡ false) xs (λ y i. not_same (same_text x y) (λ e.
+  all_in (λ y. same_text x y ≡ false) xs (λ y i. false_from_ne_true (same_text x y) (λ e.
       let k = place_of xs y i in
       let same : x.0 ≡ y.0 = same_rel x.0 y.0 (good x (here x xs)) (good y (there x xs y i)) ((bytes_eq-Decides (rel_text x.0) (rel_text y.0)).0 e) in
       none (suc k.0) (twice_first x y xs k.0 same k.1))),
@@ -94,6 +92,6 @@ none_in_listing files k listing b =
     let within = within_at files k b.entry b.stands in
     let i : Contains files b.entry = (k, within, get_or_from_slice_get files k b.entry b.entry b.stands) in
     elim b.bad [
-      | inl feed ↦ opposite (has_feed (rel_text b.entry.0)) feed (listing.entries b.entry i).one_line
+      | inl feed ↦ true_false (has_feed (rel_text b.entry.0)) feed (listing.entries b.entry i).one_line
       | inr below ↦ some_part below.part below.down (listing.apart (below.part ∷ below.down) b.entry.0 b.entry.1 below.digest i below.stands)
     ]

@@ -3,7 +3,7 @@ use Rattle.std.proofs.Common.{◌≡◌, ℕ, ◌+◌, ◌<◌, List, length, ta
 use Rattle.std.specs.Prelude.{◌⊎◌, ◌↔◌, IsTrue}
 use Rattle.pn_digest.specs.Listing.{Entry, IsRelPath, rel_text}
 use Rattle.pn_digest.specs.Folders.{IsFolderText, HasFolders}
-use Rattle.pn_digest.proofs.Elements.{in_front_more, still_in_front, now_in_front}
+use Rattle.pn_digest.proofs.PlaceLemmas.{in_front_more, still_in_front, now_in_front}
 
 pub has_more : (files : List Entry) (i : ℕ) (x : Entry) (old new : List ℕ → Bool) → i < length files → x ≡ get_or files i x → IsRelPath x.0 → HasFolders (take i files) old
     → ((t : List ℕ) → IsTrue (new t) ↔ (IsTrue (old t) ⊎ IsFolderText (rel_text x.0) t)) → HasFolders (take (i + 1) files) new

@@ -1,21 +1,9 @@
 -- The fronts of a text before its slashes.
-use Rattle.std.proofs.Common.{◌≡◌, ℕ, ◌+◌, ◌<◌, ◌≤◌, List, [], ◌∷◌, ◌++◌, length, take, drop, get_or, refl, sym, ap, ◌∙◌, subst, arith, Bool, true, false, cond, inl, inr, length-append}
-use Rattle.std.specs.Prelude.{◌⊎◌, ◌↔◌, ◌||◌, IsTrue, nat_lt}
-use Rattle.std.proofs.lemmas.List.{drop_more, take-append-drop}
+use Rattle.std.proofs.Common.{◌≡◌, ℕ, ◌+◌, ◌<◌, ◌≤◌, List, ◌∷◌, ◌++◌, length, take, drop, get_or, refl, sym, ap, ◌∙◌, subst, arith, Bool, true, false, inl, inr, length-append}
+use Rattle.std.specs.Prelude.{◌⊎◌, ◌↔◌, IsTrue, nat_lt}
 use Rattle.std.proofs.lemmas.Bool.Decides.{nat_tests}
 use Rattle.pn_digest.specs.Folders.{IsFolderText}
-
-pub or_cond : (a b : Bool) → cond a true b ≡ (a || b)
-or_cond true b = refl
-or_cond false b = refl
-
-pub or_cases : (a b : Bool) → (a || b) ≡ true → (a ≡ true) ⊎ (b ≡ true)
-or_cases true b h = inl refl
-or_cases false b h = inr h
-
-pub or_right : (a b : Bool) → b ≡ true → (a || b) ≡ true
-or_right true b h = refl
-or_right false b h = h
+use Rattle.pn_text.proofs.Bytes.{around_slash, at_seam, before_seam}
 
 -- the text is the front before a slash that stands before i
 abbrev pub IsFrontBefore : List ℕ → ℕ → List ℕ → Type 0
@@ -41,17 +29,6 @@ parted path i t f = elim (nat_lt f.0 i) as (λ b. nat_lt f.0 i ≡ b → IsFront
   | false ↦ λ e. let same : f.0 ≡ i = last f.0 i e f.1 in inr (subst (λ k. get_or path k 0 ≡ 47) same f.2, subst (λ k. take k path ≡ t) same f.3)
 ] refl
 
-around : (text : List ℕ) (i : ℕ) → i < length text → get_or text i 0 ≡ 47 → text ≡ take i text ++ 47 ∷ drop (i + 1) text
-around text i within slash = sym (take-append-drop i text) ∙ ap (λ r. take i text ++ r) (drop_more text i 0 within ∙ ap (λ b. b ∷ drop (i + 1) text) slash)
-
-at_seam : (front rest : List ℕ) → get_or (front ++ 47 ∷ rest) (length front) 0 ≡ 47
-at_seam [] rest = refl
-at_seam (x ∷ xs) rest = at_seam xs rest
-
-before_seam : (front rest : List ℕ) → take (length front) (front ++ 47 ∷ rest) ≡ front
-before_seam [] rest = refl
-before_seam (x ∷ xs) rest = ap (λ t. x ∷ t) (before_seam xs rest)
-
 front_at : (path t rest : List ℕ) → path ≡ t ++ 47 ∷ rest → IsFrontBefore path (length path) t
 front_at path t rest e = subst (λ p. IsFrontBefore p (length p) t) (sym e) (length t, omega (arith, length-append t (47 ∷ rest)), at_seam t rest, before_seam t rest)
 
@@ -60,7 +37,7 @@ pub adds_all : (old new : List ℕ → Bool) (path : List ℕ) → AddsFronts ol
 adds_all old new path adds t = (
   λ h. elim ((adds t).0 h) [
     | inl a ↦ inl a
-    | inr f ↦ inr (drop (f.0 + 1) path, around path f.0 f.1 f.2 ∙ ap (λ z. z ++ 47 ∷ drop (f.0 + 1) path) f.3)
+    | inr f ↦ inr (drop (f.0 + 1) path, around_slash path f.0 f.1 f.2 ∙ ap (λ z. z ++ 47 ∷ drop (f.0 + 1) path) f.3)
   ],
   λ h. elim h [ inl a ↦ (adds t).1 (inl a) | inr g ↦ (adds t).1 (inr (front_at path t g.0 g.1)) ],
 )

@@ -3,7 +3,7 @@ use Rattle.std.proofs.Common.{◌≡◌, ℕ, List, refl, sym, ◌∙◌, subst,
 use Rattle.std.specs.Prelude.{Option, Some, None, MatchOption, is_some}
 use Rattle.pn_digest.specs.Listing.{Entry, IsListing, IsListingText, listing_text}
 use Rattle.pn_digest.specs.Lines.{AreEntries}
-use Rattle.pn_digest.proofs.LineTexts.{texts_one}
+use Rattle.pn_digest.proofs.ListingTextLemmas.{texts_one}
 
 pub one_text : (bytes : List ℕ) (files : List Entry) → bytes ≡ listing_text files → AreEntries files → IsListingText bytes → IsListing files
 one_text bytes files is entries t = subst IsListing (texts_one t.0 files t.1.listing.entries entries (sym t.1.is ∙ is)) t.1.listing

@@ -10,7 +10,7 @@ use Rattle.std.specs.List.{IsDistinct}
 use Rattle.std.specs.List.Sorted.{IsSortedBy}
 use Rattle.std.proofs.lemmas.Cmp.{nat_list_cmp_total}
 use Rattle.pn_digest.specs.Listing.{Entry, IsRising, rel_text}
-use Rattle.pn_digest.proofs.Chains.{IsChain, less_is, read_on, rising_from_chain}
+use Rattle.pn_digest.proofs.RisingTextLemmas.{IsChain, less_is, read_on, rising_from_chain}
 
 abbrev pub entry_text : Entry → List ℕ
 entry_text e = rel_text e.0

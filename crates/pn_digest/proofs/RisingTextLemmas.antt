@@ -1,14 +1,14 @@
 -- Texts that rise in byte order.
-use Rattle.std.proofs.Common.{◌≡◌, ℕ, ◌+◌, ◌<◌, List, [], ◌∷◌, length, map, get_or, refl, sym, ap, ◌∙◌, subst, arith, Bool, true, false, Less, nat_cmp}
+use Rattle.std.proofs.Common.{◌≡◌, ℕ, ◌+◌, ◌<◌, List, [], ◌∷◌, length, map, get_or, sym, ap, ◌∙◌, subst, arith, Bool, true, false, Less, nat_cmp}
 use Rattle.std.specs.Prelude.{zero, suc}
 use Rattle.std.specs.Bool.{MatchBool}
 use Rattle.std.specs.Ordering.{is_lt}
 use Rattle.std.specs.declared.cmp.Ordering.{Ordering}
-use Rattle.std.specs.declared.cmp.Ordering.TheVariants.{Equal, Greater}
 use Rattle.std.specs.Cmp.Lexicographic.{slice_cmp}
 use Rattle.std.specs.List.{AllByRecursion, IsAllAdjacentAnswer}
 use Rattle.std.specs.List.Sorted.{IsStrictlySortedBy}
 use Rattle.std.proofs.lemmas.Cmp.{nat_list_cmp_total}
+use Rattle.pn_text.proofs.Orders.{is_less}
 
 -- the byte order of the texts of two things
 abbrev pub text_cmp : {T : Type 0} → (T → List ℕ) → T → T → Ordering
@@ -65,11 +65,6 @@ chain_at text (x ∷ []) h k d lt = absurd (omega (arith, lt))
 chain_at text (x ∷ y ∷ es) h zero d lt = h.0
 chain_at text (x ∷ y ∷ es) h (suc k) d lt =
     subst (λ z. text_cmp text (get_or (y ∷ es) k d) z ≡ Less) (sym (read_on x (y ∷ es) k d)) (chain_at text (y ∷ es) h.1 k d (omega (arith, lt)))
-
-is_less : (o : Ordering) → is_lt o ≡ true → o ≡ Less
-is_less Less e = refl
-is_less Equal e = cc e
-is_less Greater e = cc e
 
 pub less_is : (o : Ordering) → o ≡ Less → is_lt o ≡ false → ⊥
 less_is o e h = let f : true ≡ false = ap is_lt (sym e) ∙ h in cc

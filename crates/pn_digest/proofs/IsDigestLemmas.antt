@@ -1,12 +1,13 @@
 -- Digests and their hex digits.
-use Rattle.std.proofs.Common.{◌≡◌, ◌↔◌, ℕ, ◌/◌, ◌%◌, List, [], ◌∷◌, length, None, Some, Result, Ok, refl, sym, subst, ap, ◌∙◌, arith, Bool, true, false}
-use Rattle.std.specs.Prelude.{MatchResult, is_err, ◌==◌, ◌||◌, slice_index, zero, suc}
+use Rattle.std.proofs.Common.{◌≡◌, ◌↔◌, ℕ, ◌/◌, ◌%◌, List, [], ◌∷◌, length, None, Some, Result, Ok, refl, sym, subst, ap, ◌∙◌, arith, true, false}
+use Rattle.std.specs.Prelude.{MatchResult, is_err, ◌==◌, slice_index, zero, suc}
 use Rattle.hex.specs.Hex.{encode_lower, encode_with, lower_digits, decode_sized, decode_pairs}
 use Rattle.hex.specs.declared.error.FromHexError.{FromHexError}
 use Rattle.hex.proofs.HexLemmas.{length-encode_with, decode_pairs-encode_with, IsDigits-lower_digits}
 use Rattle.hex.proofs.Pairs.{decode_sized-pairs}
 use Rattle.pn_digest.specs.Digests.{IsDigest}
 use Rattle.pn_digest.specs.Listing.{has_feed}
+use Rattle.pn_text.proofs.Bools.{both_false, left_false, right_false}
 
 pub length-hex : (d : List ℕ) → IsDigest d → length (encode_lower d) ≡ 128
 length-hex d digest = let e = length-encode_with lower_digits d in omega (arith, e, digest.0)
@@ -38,18 +39,6 @@ some_exact s x is digest d = (
       subst (λ z. (s ≡ encode_lower z) × IsDigest z) e (is, digest),
   λ h. ap Some (one_hex x d digest h.1 (sym is ∙ h.0)),
 )
-
-pub both_false : (a b : Bool) → a ≡ false → b ≡ false → (a || b) ≡ false
-both_false true b h k = h
-both_false false b h k = k
-
-pub left_false : (a b : Bool) → (a || b) ≡ false → a ≡ false
-left_false true b h = h
-left_false false b h = refl
-
-pub right_false : (a b : Bool) → (a || b) ≡ false → b ≡ false
-right_false true b h = cc h
-right_false false b h = h
 
 no_feed_at : (xs : List ℕ) (k : ℕ) → has_feed xs ≡ false → (slice_index xs k == 10) ≡ false
 no_feed_at [] k h = refl
