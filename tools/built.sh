@@ -22,15 +22,20 @@ if [ -z "$own" ] && is_shipped "$name" "$sources"; then
 fi
 kit=$(kit)
 if ! is_built "$name" "$kit" "$sources"; then
-  if [ -z "$kit" ]; then
+  if [ -n "$kit" ]; then
+    python3 "$top/tools/lib/build.py" "$name" "$kit" >&2 && status=0 || status=1
+  else
+    echo "$name: the program has to be built, and the kit's command rt isn't on the path" >&2
+    status=127
+  fi
+  if [ "$status" -ne 0 ]; then
     cat >&2 <<WHY
-$name: the program has to be built, and the kit's command rt isn't on the path. Either
+$name: either
   - take the sources that the shipped programs are made of (git stash, or a fresh clone): these need no kit, but Linux on
     x86-64 with glibc 2.34 or newer; or
-  - put rt of the kit on the path: the shipped programs are made by $(recorded kit)
+  - build with the kit that has made these: $(recorded kit)
 WHY
-    exit 127
+    exit "$status"
   fi
-  python3 "$top/tools/lib/build.py" "$name" "$kit" >&2 || exit 1
 fi
 built_path "$name"

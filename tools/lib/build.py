@@ -5,6 +5,7 @@ Usage: build.py NAME KIT'S LINE
 """
 import fcntl
 import os
+import re
 import subprocess
 import sys
 import threading
@@ -45,12 +46,23 @@ def crates_of(name):
     return found
 
 
-def free_bytes():
+def number_in(path, line=""):
+    """The number that a file has, behind this text on a line; None where there is none."""
     try:
-        with open("/proc/meminfo", encoding="utf-8") as file:
-            return next(int(line.split()[1]) << 10 for line in file if line.startswith("MemAvailable:"))
-    except (OSError, StopIteration):
-        return BYTES_A_PROOF
+        with open(path, encoding="utf-8") as file:
+            found = re.search(rf"^{line}\s*(\d+)", file.read(), re.M)
+    except OSError:
+        return None
+    return found and int(found[1])
+
+
+def free_bytes():
+    """The free memory, under the limit of the control group too."""
+    free = [(number_in("/proc/meminfo", "MemAvailable:") or 0) << 10]
+    limit, held = (number_in(f"/sys/fs/cgroup/memory.{name}") for name in ("max", "current"))
+    if limit and held is not None:
+        free.append(limit - held)
+    return min(free)
 
 
 def at_once():
@@ -71,6 +83,8 @@ class Progress:
         words = line.split()
         if len(words) == 2 and words[0] == "==" and words[1] in self.crates:
             self.ended.append(words[1])
+        if line.startswith("logic=not-proved") and self.ended:
+            self.ended.pop()
 
     def is_going(self, crate):
         """rt makes a library's folder anew when it begins, and writes the stamp when it has ended. The program comes last."""
@@ -117,7 +131,8 @@ def prove(name, log):
     finally:
         done.set()
         teller.join()
-    progress.tell()
+    if status == 0:
+        progress.tell()
     return status == 0
 
 
@@ -173,7 +188,9 @@ def main():
         return build(name, kit)
     except OSError as e:
         tell(f"{name}: the program can't be built: {e}")
-        return 1
+    except KeyboardInterrupt:
+        tell(f"{name}: the build was stopped; what is proved is kept")
+    return 1
 
 
 if __name__ == "__main__":

@@ -18,17 +18,17 @@ const cleanEnv = (more) => {
 
 // Runs a program in a folder and answers its status and what it wrote.
 export const run = (file, words, options = {}) => {
-  const { cwd, env = {}, input = '', stdout = 'pipe' } = options;
-  const stdio = ['pipe', stdout, 'pipe'];
+  const { cwd, env = {}, input = '', stdout = 'pipe', stderr = 'pipe' } = options;
+  const stdio = ['pipe', stdout, stderr];
   const ended = spawnSync(file, words, { cwd, env: cleanEnv(env), input, stdio, maxBuffer: 1 << 28, encoding: 'utf8' });
   if (ended.error !== undefined) throw new Error(`${file} can't be run: ${ended.error.message}`);
   return { status: ended.status, out: ended.stdout ?? '', err: ended.stderr };
 };
 
-// The path of a program of this repository: the shipped one, or one that is built first.
+// The path of a program of this repository: the shipped one, or one that is built first, which standard error tells of.
 export const built = (name) => {
-  const { status, out, err } = run(join(top, 'tools', 'built.sh'), [name]);
-  if (status !== 0) throw new Error(`${name} can't be built: ${err.trim()}`);
+  const { status, out } = run(join(top, 'tools', 'built.sh'), [name], { stderr: 'inherit' });
+  if (status !== 0) throw new Error(`${name} can't be built`);
   return out.slice(0, -1);
 };
 

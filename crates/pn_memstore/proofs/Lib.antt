@@ -1,9 +1,8 @@
-pub mod Addresses
-pub mod KeyLists
-pub mod Own
-pub mod Standing
-pub mod Behind
-pub mod Scripts
-pub mod Listed
-pub mod Schedules
+pub mod WithBytesLemmas
+pub mod AreAddressesLemmas
+pub mod AloneLemmas
+pub mod IsWholeLemmas
+pub mod OthersCameLemmas
+pub mod DueCameLemmas
+pub mod ToComeLemmas
 pub mod RisesToLemmas

@@ -1,6 +1,7 @@
 -- What a store in memory does by itself: steps of other installers come before its calls, and some calls fail.
 use Rattle.std.specs.Prelude.{◌≡◌, ◌≢◌, ◌⊎◌, ℕ, ◌+◌, ◌-◌, ◌^◌, ◌<◌, ◌≤◌, min, Bool, true, false, List, [], ◌∷◌, ◌++◌, ◌==◌, Result, Ok, Err}
-use Rattle.std.specs.List.{AllByRecursion, list_any}
+use Rattle.std.specs.List.{AllByRecursion}
+use Rattle.pn_text.specs.Causes.{count_after}
 use Rattle.pn_text.specs.declared.fault.DevFault.{DevFault}
 use Rattle.pn_text.specs.declared.fault.DevFault.TheVariants.{Failed, Memory}
 use Rattle.pn_storecore.specs.declared.step.StoreStep.{StoreStep}
@@ -46,14 +47,6 @@ pub record DueCame (me call : ℕ) (schedule later : List Scheduled) (old own ne
 abbrev pub IsLater : ℕ → List Scheduled → Type 0
 IsLater call [] = Unit {0}
 IsLater call (e ∷ es) = call < e.0
-
--- whether the number is one of those
-abbrev pub is_listed : List ℕ → ℕ → Bool
-is_listed numbers n = list_any (λ m. m == n) numbers
-
--- a count with one more, which stands still at its type's end
-abbrev pub count_after : ℕ → ℕ
-count_after n = min (n + 1) (2 ^ 64 - 1)
 
 -- A call that doesn't fail comes after all the entries that have their turn before it, and makes its own steps. One
 -- that fails comes after them too, makes none, and counts as a fault. Where memory was wanted, some of those entries

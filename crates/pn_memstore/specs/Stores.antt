@@ -1,5 +1,6 @@
 -- What the stores in memory show.
 use Rattle.std.specs.Prelude.{◌≡◌, [], ◌∷◌, ◌++◌, Some, Result, MatchResult}
+use Rattle.pn_text.specs.Causes.{is_listed}
 use Rattle.pn_text.specs.declared.fault.DevFault.{DevFault}
 use Rattle.pn_text.specs.declared.fault.DevFault.TheVariants.{Memory}
 use Rattle.pn_storecore.specs.declared.step.StoreStep.{StoreStep}
@@ -7,7 +8,7 @@ use Rattle.pn_memstore.specs.declared.sure.SureStore.{SureStore}
 use Rattle.pn_memstore.specs.declared.mem.MemStore.{MemStore}
 use Rattle.pn_storecore.specs.Steps.{Journal}
 use Rattle.pn_storecore.specs.Seen.{Seen}
-use Rattle.pn_memstore.specs.Script.{Script, Goes, is_listed}
+use Rattle.pn_memstore.specs.Script.{Script, Goes}
 use Rattle.pn_memstore.specs.Schedule.{to_come}
 
 -- the steps on a store

@@ -11,9 +11,9 @@ use crate::conditions::{
     has_shard, owns,
 };
 use crate::objects::ObjectMap;
-use pn_storecore::StoreStep;
 use crate::world::StoreWorld;
 use pn_digest::{Digest, Listing, ListingFault, listing_law};
+use pn_storecore::StoreStep;
 use pn_text::Memory;
 use std::alloc::Global;
 

@@ -10,9 +10,9 @@ ghost use Rattle.pn_memstore.specs.Kept.{objects_in, world_in};
 
 use crate::objects::ObjectMap;
 use crate::world::StoreWorld;
-use pn_digest::{Digest, Hasher512};
-use pn_storecore::{Bytes, FILE_LIMIT};
-use pn_text::RelPath;
+use pn_digest::Digest;
+use pn_storecore::Bytes;
+use pn_text::{FILE_LIMIT, RelPath};
 
 pub fn owns(world: &StoreWorld, who: u64, k: u32) -> bool
     ensures { Decides result (owner_of (world_in world.now) k ≡ Some who) }
@@ -47,9 +47,7 @@ pub fn can_append(world: &StoreWorld, who: u64, k: u32, n: u32) -> bool
 pub fn has_digest(bytes: &[u8], at: &Digest) -> bool
     ensures { Decides result (sha512 bytes.now ≡ at.now) }
 {
-    let mut hasher = Hasher512::new();
-    hasher.push(bytes);
-    hasher.end() == *at
+    Digest::of_bytes(bytes) == *at
 }
 
 pub fn has_shard(objects: &ObjectMap, at: &Digest) -> bool
@@ -74,7 +72,7 @@ pub fn can_publish_file(world: &StoreWorld, who: u64, k: u32, n: u32, at: &Diges
 fn is_file(bytes: &[u8], at: &Digest) -> bool
     ensures { Decides result (IsStoredFile at.now bytes.now) }
 {
-    bytes.len() <= FILE_LIMIT && has_digest(bytes, at)
+    bytes.len() as u64 <= FILE_LIMIT && has_digest(bytes, at)
 }
 
 pub fn all_stand(files: &ObjectMap, listing: &[(RelPath, Digest)]) -> bool

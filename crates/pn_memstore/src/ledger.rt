@@ -6,8 +6,8 @@ ghost use Rattle.pn_storecore.specs.Lawful.{IsLawful, IsDiscard, AreLawfulOrDisc
 ghost use Rattle.pn_memstore.specs.Kept.{world_in};
 ghost use Rattle.pn_memstore.specs.Sets.{World-set};
 
-use pn_storecore::StoreStep;
 use crate::world::StoreWorld;
+use pn_storecore::StoreStep;
 use pn_text::Memory;
 use std::alloc::Global;
 

@@ -13,12 +13,10 @@ mod ledger;
 mod mem;
 mod objects;
 mod others;
-mod piece;
 mod schedule;
 mod sorting;
 mod sure;
 mod temps;
-mod turns;
 mod world;
 
 pub use laws::{mem_law, sure_law};

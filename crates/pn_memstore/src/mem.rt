@@ -1,17 +1,16 @@
 // A store in memory that other installers use too, and whose calls fail at given numbers.
 ghost use Rattle.std.specs.Prelude.{◌≡◌, []};
-ghost use Rattle.pn_text.specs.Causes.{HasCause};
+ghost use Rattle.pn_text.specs.Causes.{HasCause, is_listed};
 ghost use Rattle.pn_storecore.specs.Seen.{Seen, fresh};
 ghost use Rattle.pn_memstore.specs.Came.{OthersCame};
 ghost use Rattle.pn_memstore.specs.Sorting.{AreByCall};
-ghost use Rattle.pn_memstore.specs.Script.{Goes, is_listed};
+ghost use Rattle.pn_memstore.specs.Script.{Goes};
 
-use pn_storecore::{Discard, Place, StoreDisk, StoreStep};
 use crate::schedule::Schedule;
 use crate::sure::SureStore;
-use crate::turns::Turns;
 use pn_digest::Digest;
-use pn_text::DevFault;
+use pn_storecore::{Discard, Place, StoreDisk, StoreStep};
+use pn_text::{DevFault, Turns};
 use std::alloc::Global;
 
 /// A store in memory. The calls with given numbers fail, and steps of other installers come before

@@ -5,10 +5,9 @@ ghost use Rattle.pn_storecore.specs.World.{no_objects, with_bytes};
 ghost use Rattle.pn_storecore.specs.Steps.{with_shard};
 ghost use Rattle.pn_storecore.specs.Calls.{IsRead, AreAddresses};
 
-use pn_storecore::Bytes;
-use crate::piece::copy_piece;
 use pn_digest::Digest;
-use pn_text::Memory;
+use pn_storecore::Bytes;
+use pn_text::{Memory, copy_piece};
 use std::alloc::Global;
 use std::collections::BTreeMap;
 

@@ -3,26 +3,21 @@
 ghost use Rattle.std.specs.Prelude.{◌≡◌, ◌≤◌, ℕ, List, [], ◌++◌, Some, None, OnOk, IfOk, length};
 ghost use Rattle.std.specs.Bool.{OnTrue};
 ghost use Rattle.sha2.specs.Sha512.{sha512};
+ghost use Rattle.pn_text.specs.declared.limits.TheConstants.{FILE_LIMIT};
 ghost use Rattle.pn_digest.specs.Listing.{IsListingText, Names};
 ghost use Rattle.pn_storecore.specs.declared.step.Place.TheVariants.{Files, Listings};
 ghost use Rattle.pn_storecore.specs.World.{first_byte};
-ghost use Rattle.pn_storecore.specs.Stored.{IsStoredFile, file_limit};
+ghost use Rattle.pn_storecore.specs.Stored.{IsStoredFile};
 ghost use Rattle.pn_storecore.specs.Held.{Holds, HasShard, HasObject, HasDigest, IsFree, IsSoundStore, IsAddressedStore, TempFiles, no_files, files_with};
 ghost use Rattle.pn_storecore.specs.Grew.{Grew};
 
-use pn_storecore::{Place, StoreDisk, asks_law, did_law, grew_law, holds_law, leaves_law, stands_law};
-use pn_digest::{Digest, Hasher512, Listing, listing_law};
+use pn_digest::{Digest, Listing, listing_law};
+use pn_storecore::{
+    Place, StoreDisk, asks_law, did_law, grew_law, holds_law, leaves_law, stands_law,
+};
 use pn_text::{DevFault, RelPath};
 use std::alloc::Global;
 use std::test::Fail;
-
-pub fn digest(bytes: &[u8]) -> Digest
-    ensures { result ≡ sha512 bytes.now }
-{
-    let mut hasher = Hasher512::new();
-    hasher.push(bytes);
-    hasher.end()
-}
 
 fn first_of(at: &Digest) -> u8
     ensures { result ≡ first_byte at.now }
@@ -127,13 +122,13 @@ fn move_listing<D: StoreDisk>(disk: &mut D, k: u32, at: &Digest) -> Result<(), D
 // Puts a file into a held folder, and from there to the address of its bytes.
 fn put_file<D: StoreDisk>(disk: &mut D, k: u32, bytes: &[u8]) -> Result<(), DevFault>
     requires holds { Holds (D.seen disk.old) k no_files }
-    requires short { length bytes.now ≤ file_limit }
+    requires short { length bytes.now ≤ FILE_LIMIT }
     ensures folder { OnOk result (Holds (D.seen disk.new) k no_files) }
     ensures stands { OnOk result (HasObject (D.seen disk.new) Files (sha512 bytes.now)) }
     ensures grew { Grew (D.seen disk.old) (D.seen disk.new) }
 {
     grew_law();
-    let at = digest(bytes);
+    let at = Digest::of_bytes(bytes);
     write(disk, k, bytes)?;
     shard(disk, Place::Files, first_of(&at))?;
     move_file(disk, k, &at)
@@ -149,7 +144,7 @@ fn put_listing<D: StoreDisk>(disk: &mut D, k: u32, text: &[u8]) -> Result<(), De
     ensures grew { Grew (D.seen disk.old) (D.seen disk.new) }
 {
     grew_law();
-    let at = digest(text);
+    let at = Digest::of_bytes(text);
     write(disk, k, text)?;
     shard(disk, Place::Listings, first_of(&at))?;
     move_listing(disk, k, &at)
@@ -217,7 +212,7 @@ fn release<D: StoreDisk>(disk: &mut D, k: u32) -> Result<(), DevFault>
 // Puts a file and the listing that names it alone, by a number that is held, and gives the number back.
 fn put_held<D: StoreDisk>(disk: &mut D, k: u32, bytes: &[u8], text: &[u8]) -> Result<bool, DevFault>
     requires holds { Holds (D.seen disk.old) k no_files }
-    requires short { length bytes.now ≤ file_limit }
+    requires short { length bytes.now ≤ FILE_LIMIT }
     requires text { IsListingText text.now }
     requires named { (file : List ℕ) → Names text.now file → file ≡ sha512 bytes.now }
     ensures file { OnOk result (HasObject (D.seen disk.new) Files (sha512 bytes.now)) }
@@ -227,7 +222,7 @@ fn put_held<D: StoreDisk>(disk: &mut D, k: u32, bytes: &[u8], text: &[u8]) -> Re
 {
     grew_law();
     put_file(disk, k, bytes)?;
-    let found = look(disk, &digest(bytes))?;
+    let found = look(disk, &Digest::of_bytes(bytes))?;
     put_listing(disk, k, text)?;
     release(disk, k)?;
     Ok(found)
@@ -236,7 +231,7 @@ fn put_held<D: StoreDisk>(disk: &mut D, k: u32, bytes: &[u8], text: &[u8]) -> Re
 // Puts a file, and the listing that names it alone. `false` where the number is taken. Whatever it
 // answers, it leaves a sound store sound.
 fn put_both<D: StoreDisk>(disk: &mut D, k: u32, bytes: &[u8], text: &[u8]) -> Result<bool, DevFault>
-    requires short { length bytes.now ≤ file_limit }
+    requires short { length bytes.now ≤ FILE_LIMIT }
     requires text { IsListingText text.now }
     requires named { (file : List ℕ) → Names text.now file → file ≡ sha512 bytes.now }
     ensures file { IsAddressedStore (D.seen disk.old) → IfOk result (λ done. OnTrue done (HasDigest (D.seen disk.new) Files (sha512 bytes.now))) }
@@ -261,7 +256,7 @@ fn listing_of(alloc: Global, bytes: &[u8]) -> Result<Vec<u8>, Fail>
 {
     listing_law();
     let mut files = Vec::new(alloc);
-    files.push((RelPath::read(alloc, "x")?, digest(bytes)))?;
+    files.push((RelPath::read(alloc, "x")?, Digest::of_bytes(bytes)))?;
     let listing = Listing::of_files(alloc, files)?;
     let text = listing.print(alloc)?;
     Ok(text)
@@ -274,7 +269,7 @@ pub fn put<D: StoreDisk>(
     k: u32,
     bytes: &[u8],
 ) -> Result<Result<bool, DevFault>, Fail>
-    requires { length bytes.now ≤ file_limit }
+    requires { length bytes.now ≤ FILE_LIMIT }
     ensures file { IsAddressedStore (D.seen disk.old) → IfOk result (λ put. IfOk put (λ done. OnTrue done (HasDigest (D.seen disk.new) Files (sha512 bytes.now)))) }
     ensures free { IfOk result (λ put. IfOk put (λ done. OnTrue done (IsFree (D.seen disk.new) k))) }
     ensures grew { Grew (D.seen disk.old) (D.seen disk.new) }

@@ -7,12 +7,12 @@ ghost use Rattle.pn_memstore.specs.Came.{OthersCame};
 ghost use Rattle.pn_memstore.specs.Script.{DueCame, IsLater};
 ghost use Rattle.pn_memstore.specs.Schedule.{to_come};
 
-use pn_storecore::{Bytes, Discard, Place, StoreDisk, StoreStep};
 use crate::ledger::Ledger;
 use crate::others::others_come;
 use crate::schedule::Schedule;
 use crate::temps;
 use pn_digest::Digest;
+use pn_storecore::{Bytes, Discard, Place, StoreDisk, StoreStep};
 use pn_text::DevFault;
 use std::alloc::Global;
 

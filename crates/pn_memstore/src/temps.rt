@@ -6,8 +6,8 @@ ghost use Rattle.pn_storecore.specs.Steps.{claim_in, dropped_in};
 ghost use Rattle.pn_memstore.specs.Maps.{temps_in};
 ghost use Rattle.pn_storecore.specs.Calls.{AreNumbersOf};
 
-use pn_storecore::Bytes;
 use crate::folder::Folder;
+use pn_storecore::Bytes;
 use pn_text::Memory;
 use std::alloc::Global;
 use std::collections::BTreeMap;

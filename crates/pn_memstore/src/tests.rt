@@ -1,7 +1,8 @@
 // Two installers on one store, and calls that fail.
 
-use crate::puts::{digest, put};
+use crate::puts::put;
 use crate::{MemStore, SureStore};
+use pn_digest::Digest;
 use pn_storecore::{Bytes, Discard, Place, StoreDisk, StoreStep};
 use pn_text::{DevFault, Memory};
 use std::alloc::Global;
@@ -25,47 +26,53 @@ fn plain_step(i: u64) -> StoreStep {
         0 => StoreStep::Claim(0),
         1 => StoreStep::Create(0, 3),
         4 => StoreStep::Shard(Place::Files, 0xdd),
-        5 => StoreStep::PublishFile(0, 3, digest(b"abc")),
+        5 => StoreStep::PublishFile(0, 3, Digest::of_bytes(b"abc")),
         6 => StoreStep::Create(0, 4),
-        8 => StoreStep::Shard(Place::Listings, digest(LISTING).as_bytes()[0]),
-        9 => StoreStep::PublishListing(0, 4, digest(LISTING)),
+        8 => StoreStep::Shard(Place::Listings, Digest::of_bytes(LISTING).as_bytes()[0]),
+        9 => StoreStep::PublishListing(0, 4, Digest::of_bytes(LISTING)),
         _ => StoreStep::DropTemp(0, None),
     }
 }
 
-// What an installer does, step by step, that puts a file and its listing into the store.
-fn step_at(alloc: Global, i: u64) -> Result<StoreStep, Memory> {
-    let (n, piece) = match i {
-        2 => (3, b"ab".as_slice()),
-        3 => (3, b"c".as_slice()),
-        7 => (4, LISTING),
-        _ => return Ok(plain_step(i)),
-    };
-    let more = Bytes::of(alloc, piece)?;
+fn append(alloc: Global, n: u32, more: &[u8]) -> Result<StoreStep, Memory> {
+    let more = Bytes::of(alloc, more)?;
     Ok(StoreStep::Append(0, n, more))
 }
 
-// How installer 2 puts: from which step to which, which one it skips, and how many calls apart.
-struct Other {
+// What an installer does, step by step, that puts a file and its listing into the store.
+fn step_at(alloc: Global, i: u64) -> Result<StoreStep, Memory> {
+    match i {
+        2 => append(alloc, 3, b"ab"),
+        3 => append(alloc, 3, b"c"),
+        7 => append(alloc, 4, LISTING),
+        _ => Ok(plain_step(i)),
+    }
+}
+
+// Steps of installer 2, but for one of them, each so many calls after the last.
+fn steps(
+    alloc: Global,
     first: u64,
     end: u64,
     skipped: u64,
     apart: u64,
-}
-
-// It ends before our first call, or takes turns with us, or stops before its listing.
-const FIRST: Other = Other { first: 0, end: 11, skipped: NONE, apart: 0 };
-const BY_TURNS: Other = Other { first: 0, end: 11, skipped: NONE, apart: 1 };
-const STOPPED: Other = Other { first: 0, end: 9, skipped: NONE, apart: 0 };
-
-// A store on which installer 2 makes these steps, and one of whose calls fails.
-fn beside(alloc: Global, other: &Other, failing: u64) -> Result<MemStore, Memory> {
+) -> Result<Vec<(u64, u64, StoreStep)>, Memory> {
     let mut others = Vec::new(alloc);
-    for i in other.first..other.end {
-        if i != other.skipped {
-            others.push((i.saturating_mul(other.apart), 2u64, step_at(alloc, i)?))?;
+    for i in first..end {
+        if i != skipped {
+            let step = step_at(alloc, i)?;
+            others.push((i.saturating_mul(apart), 2, step))?;
         }
     }
+    Ok(others)
+}
+
+// A store where installer 2 makes these steps, and one call fails.
+fn beside(
+    alloc: Global,
+    others: Vec<(u64, u64, StoreStep)>,
+    failing: u64,
+) -> Result<MemStore, Memory> {
     let mut fail = Vec::new(alloc);
     fail.push(failing)?;
     Ok(MemStore::new(alloc, 1, others, fail))
@@ -74,7 +81,7 @@ fn beside(alloc: Global, other: &Other, failing: u64) -> Result<MemStore, Memory
 // Whether these bytes stand whole at their address.
 fn reads_back<D: StoreDisk>(disk: &mut D, place: Place, bytes: &[u8]) -> Result<bool, DevFault> {
     let mut into = [0u8; 200];
-    let found = disk.read(place, &digest(bytes), 0, &mut into)?;
+    let found = disk.read(place, &Digest::of_bytes(bytes), 0, &mut into)?;
     Ok(found == Some(bytes.len()) && into.as_slice().starts_with(bytes))
 }
 
@@ -86,10 +93,141 @@ fn counts<D: StoreDisk>(disk: &mut D) -> Result<(usize, usize, usize), DevFault>
     Ok((files.len(), listings.len(), numbers.len()))
 }
 
-// Puts these bytes by the first number that is free.
-fn put_by_turns(alloc: Global, disk: &mut MemStore, bytes: &[u8]) -> Result<Result<bool, DevFault>, Fail> {
-    match put(alloc, disk, 0, bytes)? {
-        Ok(false) => put(alloc, disk, 1, bytes),
-        done => Ok(done),
+// The other installer ends first, or takes turns with ours, or stops before its listing. It has the
+// number 0 in the last two, and in the last one keeps it. Ours puts the same, or something else.
+#[test]
+fn what_ours_put_stands_beside_another_installer(rt: HostRuntime) -> Result<(), Fail> {
+    let alloc = rt.alloc();
+    for (end, apart, number, left) in [(11, 0, 0, 0), (11, 1, 1, 0), (9, 0, 1, 1)] {
+        for (bytes, text, both) in [(b"abc".as_slice(), LISTING, 1), (OURS, OUR_LISTING, 2)] {
+            let mut disk = beside(alloc, steps(alloc, 0, end, NONE, apart)?, NONE)?;
+            if number == 1 {
+                assert!(rt; !put(alloc, &mut disk, 0, bytes)??);
+            }
+            assert!(rt; put(alloc, &mut disk, number, bytes)??);
+            assert!(rt; reads_back(&mut disk, Place::Files, b"abc")?);
+            assert!(rt; reads_back(&mut disk, Place::Files, bytes)?);
+            assert!(rt; reads_back(&mut disk, Place::Listings, text)?);
+            let listings = if left == 1 { 1 } else { both };
+            assert_eq!(rt; counts(&mut disk)?, (both, listings, left));
+        }
     }
+    Ok(())
+}
+
+// Of such a put each call fails once. What was published before it is read back: the file from the
+// seventh call on, and the listing from the fifteenth.
+#[test]
+fn what_ours_published_is_read_back_after_each_call(rt: HostRuntime) -> Result<(), Fail> {
+    let alloc = rt.alloc();
+    for (end, apart, number) in [(11, 0, 0u32), (11, 1, 1), (9, 0, 1)] {
+        for call in 0..15u64 {
+            let others = steps(alloc, 0, end, NONE, apart)?;
+            let mut disk = beside(alloc, others, u64::from(number) + call)?;
+            if number == 1 {
+                assert!(rt; !put(alloc, &mut disk, 0, OURS)??);
+            }
+            assert_eq!(rt; put(alloc, &mut disk, number, OURS)?, Err(DevFault::Failed));
+            assert_eq!(rt; reads_back(&mut disk, Place::Files, OURS)?, call > 5);
+            assert_eq!(rt;
+                reads_back(&mut disk, Place::Listings, OUR_LISTING)?,
+                call > 13
+            );
+        }
+    }
+    Ok(())
+}
+
+// Each call of a put that is alone fails once: claim, create, two appends, shard, publish, read, list,
+// numbers, the same of the listing, and the drop. What stands then is what the calls before it made.
+#[test]
+fn a_listed_call_fails_and_makes_no_step(rt: HostRuntime) -> Result<(), Fail> {
+    let alloc = rt.alloc();
+    for (first, last, left) in [
+        (0, 0, (0, 0, 0)),
+        (1, 5, (0, 0, 1)),
+        (6, 13, (1, 0, 1)),
+        (14, 14, (1, 1, 1)),
+    ] {
+        for call in first..=last {
+            let mut disk = beside(alloc, Vec::new(alloc), call)?;
+            assert_eq!(rt; put(alloc, &mut disk, 0, b"abc")?, Err(DevFault::Failed));
+            assert_eq!(rt; counts(&mut disk)?, left);
+        }
+    }
+    Ok(())
+}
+
+// Whether these numbers are claimed; none where the call fails.
+fn are_claimed(disk: &mut MemStore, numbers: &[u32]) -> bool {
+    match disk.numbers() {
+        Ok(claimed) => claimed.as_slice() == numbers,
+        Err(_) => numbers.is_empty(),
+    }
+}
+
+// An entry comes before its call, also one that stands behind others for later calls, and of two for one call
+// the first one in the list comes first. One by our installer doesn't come. A call that fails comes after its entries.
+#[test]
+fn entries_come_before_their_calls(rt: HostRuntime) -> Result<(), Fail> {
+    let alloc = rt.alloc();
+    let mut others = Vec::new(alloc);
+    for (call, who, k) in [
+        (3, 2, 2),
+        (0, 2, 0),
+        (0, 1, 5),
+        (9, 2, 4),
+        (0, 2, 1),
+        (1, 2, 3),
+    ] {
+        others.push((call, who, StoreStep::Claim(k)))?;
+    }
+    others.push((4, 2, StoreStep::DropTemp(8, None)))?;
+    others.push((4, 2, StoreStep::Claim(8)))?;
+    let mut disk = beside(alloc, others, 3)?;
+    let claimed: [&[u32]; 5] = [&[0, 1], &[0, 1, 3], &[0, 1, 3], &[], &[0, 1, 2, 3, 8]];
+    for numbers in claimed {
+        assert!(rt; are_claimed(&mut disk, numbers));
+    }
+    Ok(())
+}
+
+// A whole put, one without its last piece, one without a claim, and one that stops before its listing.
+#[test]
+fn what_is_not_lawful_is_passed_over(rt: HostRuntime) -> Result<(), Fail> {
+    let alloc = rt.alloc();
+    for (first, end, skipped, left) in [
+        (0, 11, NONE, (1, 1, 0)),
+        (0, 11, 3, (0, 0, 1)),
+        (1, 11, NONE, (0, 0, 0)),
+        (0, 9, NONE, (1, 0, 1)),
+    ] {
+        let mut disk = beside(alloc, steps(alloc, first, end, skipped, 0)?, NONE)?;
+        assert_eq!(rt; counts(&mut disk)?, left);
+    }
+    Ok(())
+}
+
+#[test]
+fn a_store_that_never_fails_holds_what_was_put(rt: HostRuntime) -> Result<(), Fail> {
+    let alloc = rt.alloc();
+    let mut disk = SureStore::new(alloc, 7);
+    assert!(rt; put(alloc, &mut disk, 4, b"abc")?? && disk.claim(2)?);
+    assert_eq!(rt; counts(&mut disk)?, (1, 1, 1));
+    let mut into = [0u8; 2];
+    for (from, found) in [(0, Some(2)), (2, Some(1)), (3, Some(0))] {
+        assert_eq!(rt;
+            disk.read(Place::Files, &Digest::of_bytes(b"abc"), from, &mut into)?,
+            found
+        );
+    }
+    let listing = Digest::of_bytes(LISTING);
+    for (what, left) in [
+        (Discard::Temp(2), (1, 1, 0)),
+        (Discard::Listing(listing), (1, 0, 0)),
+    ] {
+        disk.discard(what)?;
+        assert_eq!(rt; counts(&mut disk)?, left);
+    }
+    Ok(())
 }

@@ -7,11 +7,11 @@ ghost use Rattle.pn_storecore.specs.declared.step.StoreStep.TheVariants as step;
 ghost use Rattle.pn_memstore.specs.Maps.{temps_in};
 ghost use Rattle.pn_memstore.specs.Kept.{objects_in};
 
-use pn_storecore::{Bytes, Discard, Place, StoreStep};
 use crate::folder::Folder;
 use crate::objects::ObjectMap;
 use crate::temps;
 use pn_digest::Digest;
+use pn_storecore::{Bytes, Discard, Place, StoreStep};
 use pn_text::Memory;
 use std::alloc::Global;
 use std::collections::BTreeMap;

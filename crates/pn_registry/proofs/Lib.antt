@@ -11,3 +11,7 @@ pub mod Refusals
 pub mod Clean
 pub mod Above
 pub mod Keeping
+pub mod Distinct
+pub mod FilesLawLemmas
+pub mod ShortFiles
+pub mod ManifestLawLemmas

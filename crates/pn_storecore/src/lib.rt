@@ -20,4 +20,4 @@ pub use laws::{
     alone_law, asks_law, claims_law, did_law, discard_law, grew_law, holds_law, leaves_law,
     owner_law, place_law, published_law, sound_law, stands_law, was_law,
 };
-pub use step::{Discard, FILE_LIMIT, Place, StoreStep};
+pub use step::{Discard, Place, StoreStep};

@@ -6,9 +6,6 @@ use pn_digest::Digest;
 use pn_text::Memory;
 use std::alloc::Global;
 
-/// The most bytes that a stored file may have.
-pub const FILE_LIMIT: usize = 268_435_456;
-
 /// Where a digest is an address: among the packages' files, or among the listings.
 #[derive(Clone, Copy, Debug, PartialEq, Eq)]
 pub enum Place {

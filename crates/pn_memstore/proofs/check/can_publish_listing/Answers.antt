@@ -1,6 +1,7 @@
 use Rattle.std.proofs.Common.{sym, ap, ◌∙◌, Some}
 use Rattle.pn_memstore.specs.Kept.{world_in}
-use Rattle.pn_memstore.proofs.Standing.{listing_decides, if_ok}
+use Rattle.pn_text.proofs.Results.{if_ok}
+use Rattle.pn_memstore.proofs.IsWholeLemmas.{listing_decides}
 use Rattle.pn_memstore.proofs.check.can_publish_listing.Goals as goal
 
 pub returns-in-Some : goal.returns-in-Some

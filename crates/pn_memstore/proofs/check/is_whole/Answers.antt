@@ -2,7 +2,7 @@ use Rattle.std.proofs.Common.{subst}
 use Rattle.std.specs.Bool.{Decides}
 use Rattle.pn_storecore.specs.Stored.{AllStand}
 use Rattle.pn_memstore.specs.Kept.{objects_in}
-use Rattle.pn_memstore.proofs.Standing.{whole}
+use Rattle.pn_memstore.proofs.IsWholeLemmas.{whole}
 use Rattle.pn_memstore.proofs.check.is_whole.Goals as goal
 
 pub returns-in-Ok : goal.returns-in-Ok

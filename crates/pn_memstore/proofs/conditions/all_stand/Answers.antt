@@ -1,6 +1,6 @@
 use Rattle.std.proofs.Common.{arith, refl}
 use Rattle.pn_memstore.specs.Kept.{objects_in}
-use Rattle.pn_memstore.proofs.Standing.{copied_none, copied_some, one_lacks, one_more}
+use Rattle.pn_memstore.proofs.IsWholeLemmas.{copied_none, copied_some, one_lacks, one_more}
 use Rattle.pn_memstore.proofs.conditions.all_stand.Goals as goal
 
 pub returns-then-is_none : goal.returns-then-is_none

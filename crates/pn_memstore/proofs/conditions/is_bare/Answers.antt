@@ -1,4 +1,4 @@
-use Rattle.pn_memstore.proofs.KeyLists.{bare}
+use Rattle.pn_memstore.proofs.AreAddressesLemmas.{bare}
 use Rattle.pn_memstore.proofs.conditions.is_bare.Goals as goal
 
 pub returns-in-Some : goal.returns-in-Some

@@ -1,7 +1,7 @@
 use Rattle.std.proofs.Common.{◌≡◌, ◌++◌, ◌∷◌, [], sym, subst}
 use Rattle.std.specs.Prelude.{OnOk}
 use Rattle.pn_storecore.specs.Lawful.{IsLawful}
-use Rattle.pn_memstore.proofs.Scripts.{came_on}
+use Rattle.pn_memstore.proofs.DueCameLemmas.{came_on}
 use Rattle.pn_memstore.proofs.others.comes.Goals as goal
 
 pub returns-clause-due : goal.returns-clause-due

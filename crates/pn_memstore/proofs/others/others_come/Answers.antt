@@ -1,7 +1,7 @@
 use Rattle.std.proofs.Common.{◌∷◌, sym, ap, ◌∙◌}
 use Rattle.pn_memstore.specs.Schedule.{to_come}
-use Rattle.pn_memstore.proofs.Behind.{more_came}
-use Rattle.pn_memstore.proofs.Scripts.{next_due}
+use Rattle.pn_memstore.proofs.OthersCameLemmas.{more_came}
+use Rattle.pn_memstore.proofs.DueCameLemmas.{next_due}
 use Rattle.pn_memstore.proofs.others.others_come.Goals as goal
 
 pub entries-preserved : goal.entries-preserved

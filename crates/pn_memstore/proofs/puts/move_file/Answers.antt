@@ -3,7 +3,7 @@ use Rattle.std.specs.Prelude.{OnOk}
 use Rattle.pn_storecore.specs.declared.step.Place.TheVariants.{Files}
 use Rattle.pn_storecore.specs.declared.step.StoreStep.TheVariants.{PublishFile}
 use Rattle.pn_storecore.specs.Held.{Holds, no_files, files_with}
-use Rattle.pn_memstore.proofs.Standing.{on_ok}
+use Rattle.pn_text.proofs.Results.{on_ok}
 use Rattle.pn_memstore.proofs.puts.move_file.Goals as goal
 
 pub returns-clause-folder : goal.returns-clause-folder

@@ -3,7 +3,7 @@ use Rattle.std.specs.Prelude.{OnOk}
 use Rattle.pn_storecore.specs.declared.step.Place.TheVariants.{Listings}
 use Rattle.pn_storecore.specs.declared.step.StoreStep.TheVariants.{PublishListing}
 use Rattle.pn_storecore.specs.Held.{Holds, no_files, files_with}
-use Rattle.pn_memstore.proofs.Standing.{on_ok}
+use Rattle.pn_text.proofs.Results.{on_ok}
 use Rattle.pn_memstore.proofs.puts.move_listing.Goals as goal
 
 pub returns-clause-folder : goal.returns-clause-folder

@@ -1,6 +1,7 @@
 use Rattle.sha2.specs.Sha512.{sha512}
 use Rattle.pn_storecore.specs.declared.step.Place.TheVariants.{Files, Listings}
-use Rattle.pn_memstore.proofs.Standing.{on_ok, on_true}
+use Rattle.pn_text.proofs.Results.{on_ok}
+use Rattle.pn_memstore.proofs.IsWholeLemmas.{on_true}
 use Rattle.pn_memstore.proofs.puts.put_both.Goals as goal
 
 pub returns-clause-file : goal.returns-clause-file

@@ -1,4 +1,4 @@
-use Rattle.pn_memstore.proofs.KeyLists.{numbers}
+use Rattle.pn_memstore.proofs.AreAddressesLemmas.{numbers}
 use Rattle.pn_memstore.proofs.temps.numbers.Goals as goal
 
 pub returns : goal.returns

@@ -1,7 +1,7 @@
 use Rattle.std.proofs.Common.{ap, sym, ◌∙◌, Some, None}
 use Rattle.pn_storecore.specs.World.{with_bytes}
 use Rattle.pn_memstore.specs.Kept.{objects_in}
-use Rattle.pn_memstore.proofs.Addresses.{twice, stands_put}
+use Rattle.pn_memstore.proofs.WithBytesLemmas.{twice, stands_put}
 use Rattle.pn_memstore.proofs.world.publish.Goals as goal
 
 pub replace-requires : goal.replace-requires

@@ -4,7 +4,7 @@ use Rattle.pn_storecore.specs.World.{empty}
 use Rattle.pn_storecore.specs.Lawful.{AreLawfulOrDiscards}
 use Rattle.pn_storecore.specs.Steps.{Journal}
 use Rattle.pn_memstore.specs.Kept.{world_in}
-use Rattle.pn_storecore.proofs.Journals.{made_more, one_more}
+use Rattle.pn_storecore.proofs.JournalLemmas.{made_more, one_more}
 use Rattle.pn_memstore.proofs.ledger.Ledger.take.Goals as goal
 
 pub invariant_of-self-2 : goal.invariant_of-self-2

@@ -1,5 +1,5 @@
 use Rattle.pn_storecore.specs.declared.step.StoreStep.TheVariants.{Append}
-use Rattle.pn_memstore.proofs.Behind.{asks_turn, behind_turn}
+use Rattle.pn_memstore.proofs.OthersCameLemmas.{asks_turn, behind_turn}
 use Rattle.pn_memstore.proofs.mem.MemStoreStoreDisk.append.Goals as goal
 
 pub append-requires : goal.append-requires

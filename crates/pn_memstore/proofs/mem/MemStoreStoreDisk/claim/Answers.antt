@@ -1,5 +1,5 @@
 use Rattle.pn_storecore.specs.declared.step.StoreStep.TheVariants.{Claim}
-use Rattle.pn_memstore.proofs.Behind.{behind_turn}
+use Rattle.pn_memstore.proofs.OthersCameLemmas.{behind_turn}
 use Rattle.pn_memstore.proofs.mem.MemStoreStoreDisk.claim.Goals as goal
 
 pub returns-clause-step : goal.returns-clause-step

@@ -1,5 +1,5 @@
 use Rattle.pn_storecore.specs.declared.step.StoreStep.TheVariants.{DropTemp}
-use Rattle.pn_memstore.proofs.Behind.{asks_turn, behind_turn}
+use Rattle.pn_memstore.proofs.OthersCameLemmas.{asks_turn, behind_turn}
 use Rattle.pn_memstore.proofs.mem.MemStoreStoreDisk.drop_temp.Goals as goal
 
 pub drop_temp-requires : goal.drop_temp-requires

@@ -1,5 +1,5 @@
 use Rattle.pn_storecore.specs.declared.step.StoreStep.TheVariants.{PublishFile}
-use Rattle.pn_memstore.proofs.Behind.{asks_turn, behind_turn}
+use Rattle.pn_memstore.proofs.OthersCameLemmas.{asks_turn, behind_turn}
 use Rattle.pn_memstore.proofs.mem.MemStoreStoreDisk.publish_file.Goals as goal
 
 pub publish_file-requires : goal.publish_file-requires

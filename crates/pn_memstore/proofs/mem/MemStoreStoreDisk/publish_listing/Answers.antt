@@ -1,5 +1,5 @@
 use Rattle.pn_storecore.specs.declared.step.StoreStep.TheVariants.{PublishListing}
-use Rattle.pn_memstore.proofs.Behind.{asks_turn, behind_turn}
+use Rattle.pn_memstore.proofs.OthersCameLemmas.{asks_turn, behind_turn}
 use Rattle.pn_memstore.proofs.mem.MemStoreStoreDisk.publish_listing.Goals as goal
 
 pub publish_listing-requires : goal.publish_listing-requires

@@ -1,4 +1,4 @@
-use Rattle.pn_memstore.proofs.KeyLists.{addresses}
+use Rattle.pn_memstore.proofs.AreAddressesLemmas.{addresses}
 use Rattle.pn_memstore.proofs.objects.ObjectMap.addresses.Goals as goal
 
 pub returns : goal.returns

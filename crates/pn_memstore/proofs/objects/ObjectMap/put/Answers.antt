@@ -1,7 +1,7 @@
 use Rattle.std.proofs.Common.{Some, ap, ◌∙◌}
 use Rattle.pn_storecore.specs.World.{with_bytes}
 use Rattle.pn_memstore.specs.Kept.{objects_in}
-use Rattle.pn_memstore.proofs.Addresses.{changed}
+use Rattle.pn_memstore.proofs.WithBytesLemmas.{changed}
 use Rattle.pn_memstore.proofs.objects.ObjectMap.put.Goals as goal
 
 pub returns-clause-ok : goal.returns-clause-ok

@@ -1,6 +1,6 @@
 use Rattle.std.proofs.Common.{None}
 use Rattle.pn_memstore.specs.Kept.{objects_in}
-use Rattle.pn_memstore.proofs.Addresses.{changed}
+use Rattle.pn_memstore.proofs.WithBytesLemmas.{changed}
 use Rattle.pn_memstore.proofs.objects.ObjectMap.remove.Goals as goal
 
 pub returns : goal.returns

@@ -1,6 +1,6 @@
 use Rattle.std.proofs.Common.{rules, Some}
 use Rattle.pn_memstore.specs.Kept.{objects_in}
-use Rattle.pn_memstore.proofs.Addresses.{changed}
+use Rattle.pn_memstore.proofs.WithBytesLemmas.{changed}
 use Rattle.pn_memstore.proofs.objects.ObjectMap.replace.Goals as goal
 
 pub returns : goal.returns

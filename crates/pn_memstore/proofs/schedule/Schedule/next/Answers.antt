@@ -1,5 +1,5 @@
 use Rattle.std.proofs.Common.{◌≡◌, ◌<◌, suc, length, drop, slice_index_or, subst}
-use Rattle.pn_memstore.proofs.Schedules.{next_entry}
+use Rattle.pn_memstore.proofs.ToComeLemmas.{next_entry}
 use Rattle.pn_memstore.proofs.schedule.Schedule.next.Goals as goal
 
 pub returns-in-Some : goal.returns-in-Some

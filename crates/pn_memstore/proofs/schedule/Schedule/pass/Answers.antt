@@ -1,4 +1,4 @@
-use Rattle.pn_memstore.proofs.Schedules.{passed}
+use Rattle.pn_memstore.proofs.ToComeLemmas.{passed}
 use Rattle.pn_memstore.proofs.schedule.Schedule.pass.Goals as goal
 
 pub returns : goal.returns

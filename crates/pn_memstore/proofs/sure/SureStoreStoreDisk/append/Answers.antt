@@ -1,7 +1,7 @@
 use Rattle.std.proofs.Common.{subst, Some}
 use Rattle.pn_storecore.specs.declared.step.StoreStep.TheVariants.{Append}
 use Rattle.pn_storecore.specs.Calls.{Grows, IsFront}
-use Rattle.pn_memstore.proofs.Own.{own, any}
+use Rattle.pn_memstore.proofs.AloneLemmas.{own, any}
 use Rattle.pn_memstore.proofs.sure.SureStoreStoreDisk.append.Goals as goal
 
 pub returns-clause-step : goal.returns-clause-step

@@ -3,7 +3,7 @@ use Rattle.pn_storecore.specs.declared.step.StoreStep.TheVariants.{Read}
 use Rattle.pn_storecore.specs.World.{Objects, World, objects}
 use Rattle.pn_memstore.specs.Kept.{world_in}
 use Rattle.pn_storecore.specs.Calls.{IsRead}
-use Rattle.pn_memstore.proofs.Own.{own, same_world}
+use Rattle.pn_memstore.proofs.AloneLemmas.{own, same_world}
 use Rattle.pn_memstore.proofs.sure.SureStoreStoreDisk.read.Goals as goal
 
 pub returns-clause-step : goal.returns-clause-step
