@@ -1,4 +1,6 @@
 // Two installers on one store, and calls that fail.
+ghost use Rattle.std.specs.Prelude.{◌≤◌, length};
+ghost use Rattle.pn_text.specs.declared.limits.TheConstants.{FILE_LIMIT};
 
 use crate::puts::put;
 use crate::{MemStore, SureStore};
@@ -93,24 +95,47 @@ fn counts<D: StoreDisk>(disk: &mut D) -> Result<(usize, usize, usize), DevFault>
     Ok((files.len(), listings.len(), numbers.len()))
 }
 
+// Whether the file stands, the other installer's, and the listing with this text.
+fn stand(disk: &mut MemStore, bytes: &[u8], text: &[u8]) -> Result<(bool, bool, bool), DevFault> {
+    let ours = reads_back(disk, Place::Files, bytes)?;
+    let theirs = reads_back(disk, Place::Files, b"abc")?;
+    let listing = reads_back(disk, Place::Listings, text)?;
+    Ok((ours, theirs, listing))
+}
+
+// Puts these bytes by each of the first numbers, of which all but the last are taken.
+fn put_by(
+    alloc: Global,
+    disk: &mut MemStore,
+    numbers: u32,
+    bytes: &[u8],
+) -> Result<Result<bool, DevFault>, Fail>
+    requires { length bytes.now ≤ FILE_LIMIT }
+{
+    let mut done = Ok(false);
+    for k in 0..numbers {
+        done = put(alloc, disk, k, bytes)?;
+    }
+    Ok(done)
+}
+
 // The other installer ends first, or takes turns with ours, or stops before its listing. It has the
 // number 0 in the last two, and in the last one keeps it. Ours puts the same, or something else.
 #[test]
 fn what_ours_put_stands_beside_another_installer(rt: HostRuntime) -> Result<(), Fail> {
     let alloc = rt.alloc();
-    for (end, apart, number, left) in [(11, 0, 0, 0), (11, 1, 1, 0), (9, 0, 1, 1)] {
-        for (bytes, text, both) in [(b"abc".as_slice(), LISTING, 1), (OURS, OUR_LISTING, 2)] {
-            let mut disk = beside(alloc, steps(alloc, 0, end, NONE, apart)?, NONE)?;
-            if number == 1 {
-                assert!(rt; !put(alloc, &mut disk, 0, bytes)??);
-            }
-            assert!(rt; put(alloc, &mut disk, number, bytes)??);
-            assert!(rt; reads_back(&mut disk, Place::Files, b"abc")?);
-            assert!(rt; reads_back(&mut disk, Place::Files, bytes)?);
-            assert!(rt; reads_back(&mut disk, Place::Listings, text)?);
-            let listings = if left == 1 { 1 } else { both };
-            assert_eq!(rt; counts(&mut disk)?, (both, listings, left));
-        }
+    for (end, apart, numbers, bytes, text, left) in [
+        (11, 0, 1, b"abc".as_slice(), LISTING, (1, 1, 0)),
+        (11, 0, 1, OURS, OUR_LISTING, (2, 2, 0)),
+        (11, 1, 2, b"abc".as_slice(), LISTING, (1, 1, 0)),
+        (11, 1, 2, OURS, OUR_LISTING, (2, 2, 0)),
+        (9, 0, 2, b"abc".as_slice(), LISTING, (1, 1, 1)),
+        (9, 0, 2, OURS, OUR_LISTING, (2, 1, 1)),
+    ] {
+        let mut disk = beside(alloc, steps(alloc, 0, end, NONE, apart)?, NONE)?;
+        assert_eq!(rt; put_by(alloc, &mut disk, numbers, bytes)?, Ok(true));
+        assert_eq!(rt; stand(&mut disk, bytes, text)?, (true, true, true));
+        assert_eq!(rt; counts(&mut disk)?, left);
     }
     Ok(())
 }
@@ -120,19 +145,16 @@ fn what_ours_put_stands_beside_another_installer(rt: HostRuntime) -> Result<(), 
 #[test]
 fn what_ours_published_is_read_back_after_each_call(rt: HostRuntime) -> Result<(), Fail> {
     let alloc = rt.alloc();
-    for (end, apart, number) in [(11, 0, 0u32), (11, 1, 1), (9, 0, 1)] {
+    for (end, apart, numbers) in [(11, 0, 1u32), (11, 1, 2), (9, 0, 2)] {
         for call in 0..15u64 {
             let others = steps(alloc, 0, end, NONE, apart)?;
-            let mut disk = beside(alloc, others, u64::from(number) + call)?;
-            if number == 1 {
-                assert!(rt; !put(alloc, &mut disk, 0, OURS)??);
-            }
-            assert_eq!(rt; put(alloc, &mut disk, number, OURS)?, Err(DevFault::Failed));
-            assert_eq!(rt; reads_back(&mut disk, Place::Files, OURS)?, call > 5);
+            let mut disk = beside(alloc, others, u64::from(numbers) + call - 1)?;
             assert_eq!(rt;
-                reads_back(&mut disk, Place::Listings, OUR_LISTING)?,
-                call > 13
+                put_by(alloc, &mut disk, numbers, OURS)?,
+                Err(DevFault::Failed)
             );
+            let (ours, _, listing) = stand(&mut disk, OURS, OUR_LISTING)?;
+            assert_eq!(rt; (ours, listing), (call > 5, call > 13));
         }
     }
     Ok(())
@@ -208,23 +230,25 @@ fn what_is_not_lawful_is_passed_over(rt: HostRuntime) -> Result<(), Fail> {
     Ok(())
 }
 
+// How many bytes of the file are read from a place on, where there is room for two.
+fn read_from(disk: &mut SureStore, from: u64) -> Result<Option<usize>, DevFault> {
+    let mut into = [0u8; 2];
+    disk.read(Place::Files, &Digest::of_bytes(b"abc"), from, &mut into)
+}
+
 #[test]
 fn a_store_that_never_fails_holds_what_was_put(rt: HostRuntime) -> Result<(), Fail> {
     let alloc = rt.alloc();
     let mut disk = SureStore::new(alloc, 7);
-    assert!(rt; put(alloc, &mut disk, 4, b"abc")?? && disk.claim(2)?);
-    assert_eq!(rt; counts(&mut disk)?, (1, 1, 1));
-    let mut into = [0u8; 2];
+    assert_eq!(rt; put(alloc, &mut disk, 4, b"abc")?, Ok(true));
     for (from, found) in [(0, Some(2)), (2, Some(1)), (3, Some(0))] {
-        assert_eq!(rt;
-            disk.read(Place::Files, &Digest::of_bytes(b"abc"), from, &mut into)?,
-            found
-        );
+        assert_eq!(rt; read_from(&mut disk, from)?, found);
     }
-    let listing = Digest::of_bytes(LISTING);
+    disk.claim(2)?;
     for (what, left) in [
+        (Discard::Temp(4), (1, 1, 1)),
         (Discard::Temp(2), (1, 1, 0)),
-        (Discard::Listing(listing), (1, 0, 0)),
+        (Discard::Listing(Digest::of_bytes(LISTING)), (1, 0, 0)),
     ] {
         disk.discard(what)?;
         assert_eq!(rt; counts(&mut disk)?, left);

@@ -17,9 +17,9 @@ one_named law e es text file moved listing is names =
 
 pub returns : goal.returns
 returns c =
-    let e : Entry = (c.in_ok-read.field-0, c.digest.result) in
+    let e : Entry = (c.in_ok-read.field-0, c.of_bytes.result) in
     let es = c.in_ok-listing.listing in
     record {
       text = (es, record { listing = c.in_ok-listing.ensures.listing; is = c.in_ok-text.ensures });
-      named = λ file names. one_named c.listing_law.ensures e es c.in_ok-text.text.items file (subst (λ xs. IsPermutation xs es) (c.in_ok-push.ensures.items ∙ ap (λ xs. xs ++ e ∷ []) c.new-files.ensures.items) c.in_ok-listing.ensures.ok) c.in_ok-listing.ensures.listing c.in_ok-text.ensures names ∙ c.digest.ensures;
+      named = λ file names. one_named c.listing_law.ensures e es c.in_ok-text.text.items file (subst (λ xs. IsPermutation xs es) (c.in_ok-push.ensures.items ∙ ap (λ xs. xs ++ e ∷ []) c.new-files.ensures.items) c.in_ok-listing.ensures.ok) c.in_ok-listing.ensures.listing c.in_ok-text.ensures names ∙ c.of_bytes.ensures;
     }

@@ -13,7 +13,7 @@ move_listing-requires-clause-holds g c =
     let text = c.args.text.now in (
       text,
       c.shard.ensures.left c.args.k (files_with no_files 0 (Some text)) c.in_ok-write.ensures.folder,
-      sym c.digest-at.ensures,
+      sym c.of_bytes-at.ensures,
       c.requires.text,
       λ file names. law.object one three Files file (law.both one two three c.write.ensures.grew c.shard.ensures.grew) (c.requires.named file names),
     )
