@@ -1,19 +1,6 @@
-pub mod PlainRuns
 pub mod NodeViews
-pub mod ByteTests
-pub mod QuotedLaw
-pub mod PlainLaw
-pub mod WordLaw
-pub mod FlowLaw
 pub mod FlowApart
 pub mod BlockApart
-pub mod PrintedBytes
-pub mod PrintedLines
-pub mod PrintedRows
-pub mod BlockLaw
-pub mod ValueLaw
-pub mod PrintedUtf8
-pub mod ReadBack
 pub mod Indentations
 pub mod LineEnds
 pub mod Headers
@@ -36,7 +23,6 @@ pub mod FlowStepLemmas
 pub mod SaysLemmas
 pub mod Outcomes
 pub mod ReadFacts
-pub mod Stable
 pub mod FaultLines
 pub mod RowLines
 pub mod Fates
