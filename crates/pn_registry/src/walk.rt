@@ -3,6 +3,7 @@ ghost use Rattle.std.specs.Prelude.{◌≡◌, ◌≢◌, ◌+◌, ◌≤◌, �
 ghost use Rattle.std.specs.Option.{ForSome};
 ghost use Rattle.std.specs.List.{All};
 ghost use Rattle.pn_text.specs.Path.{is_part, path_text};
+ghost use Rattle.pn_text.specs.declared.limits.TheConstants.{PATH_LIMIT};
 ghost use Rattle.pn_fs.specs.Tree.{folder};
 ghost use Rattle.pn_fs.specs.Seen.{Keeps, GaveNothing, GaveNames, GaveAtMost};
 ghost use Rattle.pn_fs.specs.Calls.{IsListing, IsEntryName};
@@ -218,7 +219,7 @@ fn below(alloc: Global, at: &AbsPath, path: &AbsPath) -> Result<RelPath, WalkFau
     requires within { IsWithin at.now path.now }
     requires below { path.now ≢ at.now }
     ensures path { IfOk result (λ p. path.now ≡ p ++ at.now) }
-    ensures short { IfOk result (λ p. length (path_text (p ++ at.now)) ≤ 4096) }
+    ensures short { IfOk result (λ p. length (path_text (p ++ at.now)) ≤ PATH_LIMIT) }
     ensures memory { IfErr result (λ e. e ≡ WalkFault.Memory) }
 {
     let rest = behind(path.as_str(), at.as_str().len());
