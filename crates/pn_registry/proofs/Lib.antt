@@ -1,4 +1,3 @@
-pub mod Lists
 pub mod Children
 pub mod Walks
 pub mod Packages
@@ -15,3 +14,4 @@ pub mod Distinct
 pub mod FilesLawLemmas
 pub mod ShortFiles
 pub mod ManifestLawLemmas
+pub mod GivenLemmas
