@@ -1,7 +1,7 @@
 -- Lemmas on calls before which steps of other installers came.
 use Rattle.pn_text.proofs.Results.{if_ok, on_err}
-use Rattle.std.proofs.Common.{◌≡◌, ℕ, [], ◌∷◌, ◌++◌, refl, sym, ap, ◌∙◌, subst, append-nil, append_assoc, inl, inr, Some, Ok, Err}
-use Rattle.std.specs.Prelude.{Option, Result, OnErr, IfOk}
+use Rattle.std.proofs.Common.{◌≡◌, ℕ, [], ◌∷◌, ◌++◌, refl, sym, ap, ◌∙◌, subst, append_assoc, inl, inr, Some, Err}
+use Rattle.std.specs.Prelude.{Option, Result}
 use Rattle.pn_text.specs.declared.fault.DevFault.{DevFault}
 use Rattle.pn_storecore.specs.declared.step.StoreStep.{StoreStep}
 use Rattle.pn_storecore.specs.World.{World, empty}

@@ -95,6 +95,18 @@ fn counts<D: StoreDisk>(disk: &mut D) -> Result<(usize, usize, usize), DevFault>
     Ok((files.len(), listings.len(), numbers.len()))
 }
 
+// The bytes that the other installer puts, or some of our own.
+fn bytes_of(same: bool) -> &'static [u8]
+    ensures { length result.now ≤ FILE_LIMIT }
+{
+    if same { b"abc" } else { OURS }
+}
+
+// The text of the listing with them.
+fn text_of(same: bool) -> &'static [u8] {
+    if same { LISTING } else { OUR_LISTING }
+}
+
 // Whether the file stands, the other installer's, and the listing with this text.
 fn stand(disk: &mut MemStore, bytes: &[u8], text: &[u8]) -> Result<(bool, bool, bool), DevFault> {
     let ours = reads_back(disk, Place::Files, bytes)?;
@@ -124,14 +136,15 @@ fn put_by(
 #[test]
 fn what_ours_put_stands_beside_another_installer(rt: HostRuntime) -> Result<(), Fail> {
     let alloc = rt.alloc();
-    for (end, apart, numbers, bytes, text, left) in [
-        (11, 0, 1, b"abc".as_slice(), LISTING, (1, 1, 0)),
-        (11, 0, 1, OURS, OUR_LISTING, (2, 2, 0)),
-        (11, 1, 2, b"abc".as_slice(), LISTING, (1, 1, 0)),
-        (11, 1, 2, OURS, OUR_LISTING, (2, 2, 0)),
-        (9, 0, 2, b"abc".as_slice(), LISTING, (1, 1, 1)),
-        (9, 0, 2, OURS, OUR_LISTING, (2, 1, 1)),
+    for (end, apart, numbers, same, left) in [
+        (11, 0, 1, true, (1, 1, 0)),
+        (11, 0, 1, false, (2, 2, 0)),
+        (11, 1, 2, true, (1, 1, 0)),
+        (11, 1, 2, false, (2, 2, 0)),
+        (9, 0, 2, true, (1, 1, 1)),
+        (9, 0, 2, false, (2, 1, 1)),
     ] {
+        let (bytes, text) = (bytes_of(same), text_of(same));
         let mut disk = beside(alloc, steps(alloc, 0, end, NONE, apart)?, NONE)?;
         assert_eq!(rt; put_by(alloc, &mut disk, numbers, bytes)?, Ok(true));
         assert_eq!(rt; stand(&mut disk, bytes, text)?, (true, true, true));
@@ -231,7 +244,7 @@ fn what_is_not_lawful_is_passed_over(rt: HostRuntime) -> Result<(), Fail> {
 }
 
 // How many bytes of the file are read from a place on, where there is room for two.
-fn read_from(disk: &mut SureStore, from: u64) -> Result<Option<usize>, DevFault> {
+fn read_from<D: StoreDisk>(disk: &mut D, from: u64) -> Result<Option<usize>, DevFault> {
     let mut into = [0u8; 2];
     disk.read(Place::Files, &Digest::of_bytes(b"abc"), from, &mut into)
 }

@@ -2,7 +2,6 @@
 use Rattle.std.proofs.Common.{◌≡◌, ◌≢◌, ℕ, Bool, true, List, [], ◌∷◌, refl, sym, ap, ◌∙◌, subst, inl, inr, Some, None, Ok, Err, eq-eqb}
 use Rattle.std.specs.Prelude.{Option, Result, IfOk, OnOk, IfSome, Vec, ◌==◌, ◌||◌}
 use Rattle.std.specs.List.{Contains}
-use Rattle.std.specs.Option.{ForSome}
 use Rattle.std.specs.Global.{Global}
 use Rattle.std.specs.Map.{update}
 use Rattle.std.specs.Str.{bytes_eq}

@@ -1,6 +1,6 @@
 -- Lemmas on maps with another value at one key.
-use Rattle.std.proofs.Common.{◌≡◌, ◌≢◌, ℕ, List, Bool, true, false, nat_eq, refl, sym, ◌∙◌, ◌⊎◌, inl, inr, Some, None}
-use Rattle.std.specs.Prelude.{Option, cond, ◌||◌}
+use Rattle.std.proofs.Common.{◌≡◌, ◌≢◌, ℕ, List, true, false, nat_eq, refl, sym, ◌∙◌, ◌⊎◌, inl, inr, Some, None}
+use Rattle.std.specs.Prelude.{Option, cond}
 use Rattle.std.specs.Map.{update}
 use Rattle.std.specs.Str.{bytes_eq}
 use Rattle.std.specs.Cmp.{unsigned_Decides}

@@ -2,7 +2,6 @@
 use Rattle.std.specs.Prelude.{◌≡◌, ◌≢◌, ◌⊎◌, ℕ, ◌≤◌, Bool, List, length, take, Option, Some, None, Result, IfOk, OnOk, OnErr, IfSome, Vec}
 use Rattle.std.specs.Bool.{OnTrue, OnFalse}
 use Rattle.std.specs.List.{Contains}
-use Rattle.std.specs.Option.{ForSome}
 use Rattle.std.specs.Global.{Global}
 use Rattle.sha2.specs.Sha512.{sha512}
 use Rattle.pn_text.specs.declared.fault.DevFault.{DevFault}

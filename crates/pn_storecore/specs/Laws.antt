@@ -3,7 +3,6 @@ use Rattle.std.specs.Prelude.{◌≡◌, ◌≢◌, ℕ, true, List, take, Some,
 use Rattle.std.specs.List.{AllByRecursion}
 use Rattle.sha2.specs.Sha512.{sha512}
 use Rattle.pn_digest.specs.Listing.{Names}
-use Rattle.pn_storecore.specs.declared.step.Place.{Place}
 use Rattle.pn_storecore.specs.declared.step.StoreStep.{StoreStep}
 use Rattle.pn_storecore.specs.declared.step.StoreStep.TheVariants.{Claim, DropTemp}
 use Rattle.pn_storecore.specs.World.{Objects, World, empty, Stands, owner_of, claimed_by}
