@@ -1,8 +1,12 @@
-pub mod Steps
-mod FoundManifests
-mod Texts
-mod Stages
-mod Written
-mod Endings
-mod Tables
-mod Lookups
+pub mod PointLemmas
+pub mod CauseLemmas
+pub mod EndingLemmas
+pub mod FoundLemmas
+pub mod LookupLemmas
+pub mod ManifestLemmas
+pub mod OrderLemmas
+pub mod PassedLemmas
+pub mod RegistryTexts
+pub mod SettledLemmas
+pub mod TakenLemmas
+pub mod WrittenLemmas

@@ -4,14 +4,20 @@ use Rattle.pn_text.specs.Path.{Path, path_text}
 use Rattle.pn_fs.specs.Tree.{Tree}
 use Rattle.pn_cmd.specs.declared.status.Which.TheVariants.{Path as PathLength}
 use Rattle.pn_cmd.specs.declared.status.Status.{Status}
-use Rattle.pn_cmd.specs.declared.status.Status.TheVariants.{Limit, NotYet}
+use Rattle.pn_cmd.specs.declared.status.Status.TheVariants.{Limit, ProjectFault, NotYet}
+use Rattle.pn_cmd.specs.World.{Shown}
+use Rattle.pn_cmd.specs.Points.{Point}
 
-pub record NothingStands (shown : Option Tree) (p : Path) : Type 0 where
+pub record NothingStands (project : Option Tree) (p : Path) : Type 0 where
   pub fits : length (path_text p) ≤ 4096
-  pub absent : IfSome shown (λ t. t p ≡ None)
+  pub absent : IfSome project (λ t. t p ≡ None)
 
--- the path is too long, or something stands there
-abbrev pub Stands : Path → Option Tree → Status → Type 0
-Stands p shown (Limit PathLength n) = (n ≡ length (path_text p)) × (4096 < n)
-Stands p shown (NotYet text) = (text ≡ path_text p) × (length text ≤ 4096) × IfSome shown (λ t. t p ≢ None)
-Stands p shown s = ⊥
+-- The path is too long, or something stands there. A path that is too long isn't asked for.
+abbrev pub Stands : Path → Shown → Status → Type 0
+Stands p w (Limit PathLength n) = (n ≡ length (path_text p)) × (4096 < n)
+Stands p w (NotYet text) = (text ≡ path_text p) × (length text ≤ 4096) × IfSome w.trees.project (λ t. t p ≢ None)
+Stands p w ProjectFault = length (path_text p) ≤ 4096
+Stands p w s = ⊥
+
+abbrev pub standing : Point Path (Unit {0})
+standing = record { Finds = λ p t u. NothingStands t.project p; Cause = Stands }

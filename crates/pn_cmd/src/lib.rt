@@ -12,6 +12,7 @@ mod faults;
 #[cfg(test)]
 mod fixtures;
 mod graph;
+mod laws;
 mod manifest;
 mod packages;
 mod plan;
@@ -27,6 +28,7 @@ mod top;
 mod words;
 mod write;
 
+pub use laws::{cause_law, lookup_law, order_law};
 pub use status::{ManifestWhy, Status, Which};
 pub use text::tell;
-pub use top::{order_law, run};
+pub use top::run;

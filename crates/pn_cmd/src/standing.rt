@@ -1,8 +1,9 @@
 // The points at which nothing is to stand.
 ghost use Rattle.std.specs.Prelude.{◌≡◌, ◌≤◌, ◌∷◌, length, IsTrue, OnOk, IfOk, IfErr};
 ghost use Rattle.pn_text.specs.Path.{is_part};
-ghost use Rattle.pn_fs.specs.Seen.{Keeps};
-ghost use Rattle.pn_cmd.specs.Refuses.{ReadsProject};
+ghost use Rattle.pn_fs.specs.Seen.{Seen, Taken, Keeps};
+ghost use Rattle.pn_cmd.specs.World.{world};
+ghost use Rattle.pn_cmd.specs.Points.{Refuses};
 ghost use Rattle.pn_cmd.specs.Standing.{NothingStands, Stands};
 
 use crate::entry::{EntryFault, entry};
@@ -22,7 +23,7 @@ pub fn nothing_stands<P: ReadFs>(
     requires short { length part.now ≤ 255 }
     ensures path { IfOk result (λ p. p ≡ part.now ∷ folder.now) }
     ensures passed { OnOk result (NothingStands (P.seen project.old).tree (part.now ∷ folder.now)) }
-    ensures refused { IfErr result (ReadsProject (Stands (part.now ∷ folder.now) (P.seen project.old).tree) (P.seen project.old) (P.seen project.new)) }
+    ensures refused { (registry : Seen) (out : Taken) → IfErr result (Refuses (Stands (part.now ∷ folder.now)) (world (P.seen project.old) registry out) (world (P.seen project.new) registry out)) }
     ensures kept { Keeps (P.seen project.old) (P.seen project.new) }
 {
     let path = match entry(alloc, folder, part) {

@@ -5,6 +5,7 @@ use Rattle.std.specs.Option.{ForSome}
 use Rattle.std.specs.List.{Contains}
 use Rattle.pn_text.specs.Path.{Path}
 use Rattle.pn_fs.specs.Tree.{Entry, folder, Tree, IsTree, IsFree}
+use Rattle.pn_node.specs.Plan.{IsBuilt}
 use Rattle.pn_fs.proofs.Kept.{none_below}
 use Rattle.pn_manifest.specs.Pairs.{Pair}
 use Rattle.pn_plan.specs.declared.planned.Planned.{Planned}
@@ -20,7 +21,10 @@ use Rattle.pn_layout.specs.Layout.{plan_of}
 use Rattle.pn_layout.proofs.Builds.{built}
 use Rattle.pn_layout.proofs.Within.{within_from, is_within_at}
 use Rattle.pn_collect.specs.Outline.{HaveFiles}
-use Rattle.pn_cmd.specs.Plans.{modules_path, IsPlan, Installs, IsInstalled}
+use Rattle.pn_cmd.specs.Names.{modules_path}
+use Rattle.pn_cmd.specs.Plans.{IsPlan}
+use Rattle.pn_cmd.specs.Lookup.{LooksUp}
+use Rattle.pn_cmd.specs.Endings.{Installs, IsInstalled}
 
 -- the managed folder's place is free
 pub can_write : (t : Tree) (place : Path) (own : List Pair) (packages : List Package) (plan : List Planned) → IsTree t → t (modules_path place) ≡ None → t place ≡ Some folder → IsRising plan → IsPlan place own packages plan → IsWritable t plan
@@ -60,18 +64,23 @@ pub only_below : (place : Path) (own : List Pair) (packages : List Package) (pla
     → DiffersOnly (is_within (modules_path place)) old new
 only_below place own packages plan old new is h t told = let u = h t told in (u.0, u.1, λ q out. u.2 q (outside place own packages plan q is out))
 
+-- What is written is installed. The lookup follows from the build, for each tree that has it.
 pub installs : (registry : Option Tree) (place : Path) (own : List Pair) (packages : List Package) (plan : List Planned) (old new : Option Tree) → IsPlan place own packages plan → IfSome registry (λ r. FilesStand r packages)
-    → ((t : Tree) → old ≡ Some t → IsTree t) → IfSome old (λ t. t (modules_path place) ≡ None) → Writes registry plan old new → Installs registry place own packages old new
-installs registry place own packages plan None new is stand tree absent h = h
-installs None place own packages plan (Some t) new is stand tree absent h =
-    (h.0, h.1, record { built = tt; others = λ q out. h.2.others q (outside place own packages plan q is out) })
-installs (Some r) place own packages plan (Some t) new is stand tree absent h =
+    → ((t : Tree) → old ≡ Some t → IsTree t) → ((u : Tree) → new ≡ Some u → IsTree u) → ((r u : Tree) → registry ≡ Some r → IsTree u → IsBuilt u (plan_of r (modules_path place) own packages) → LooksUp r u place own)
+    → IfSome old (λ t. t (modules_path place) ≡ None) → Writes registry plan old new → Installs registry place own packages old new
+installs registry place own packages plan None new is stand tree after looks absent h = h
+installs None place own packages plan (Some t) new is stand tree after looks absent h =
+    (h.0, h.1, record { tree = after h.0 h.1; built = tt; lookup = tt; others = λ q out. h.2.others q (outside place own packages plan q is out) })
+installs (Some r) place own packages plan (Some t) new is stand tree after looks absent h =
     let top = modules_path place in
-    let none = λ (q : Path). none_within t (tree t refl) top (q ++ top) absent (is_within_at q top) in (
+    let none = λ (q : Path). none_within t (tree t refl) top (q ++ top) absent (is_within_at q top) in
+    let all : IsBuilt h.0 (plan_of r top own packages) = (built r top own packages plan t h.0 (is.build r stand) h.2 none).built in (
       h.0,
       h.1,
       record {
-        built = (built r top own packages plan t h.0 (is.build r stand) h.2 none).built;
+        tree = after h.0 h.1;
+        built = all;
+        lookup = looks r h.0 refl (after h.0 h.1) all;
         others = λ q out. h.2.others q (outside place own packages plan q is out);
       },
     )

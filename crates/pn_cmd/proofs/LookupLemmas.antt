@@ -32,16 +32,8 @@ use Rattle.pn_layout.proofs.Findings.{finds}
 use Rattle.pn_layout.proofs.Contents.{in_map, from_map}
 use Rattle.pn_collect.specs.Outline.{Outline, outline, wanted}
 use Rattle.pn_collect.specs.Packages.{ArePackages}
-use Rattle.pn_cmd.specs.declared.status.Status.{Status}
-use Rattle.pn_cmd.specs.declared.status.Status.TheVariants.{Done}
-use Rattle.pn_cmd.specs.World.{World, Inputs, sources_of}
-use Rattle.pn_cmd.specs.Names.{package_name}
-use Rattle.pn_cmd.specs.Manifests.{IsManifest, IsProjectManifest}
-use Rattle.pn_cmd.specs.Plans.{modules_path, Installs, IsInstalled}
-use Rattle.pn_cmd.specs.Order.{IsDone}
-use Rattle.pn_cmd.specs.Causes.{CauseOf}
-use Rattle.pn_cmd.specs.Lookup.{LookupOf, Finds, FindsFrom, package_home}
-use Rattle.pn_cmd.proofs.Tables.{same_bytes, same_data}
+use Rattle.pn_cmd.specs.Names.{modules_path}
+use Rattle.pn_cmd.specs.Lookup.{LooksUp, FindsFrom, package_home}
 
 -- a package that is reached, as it is installed
 record IsOne (id : Id) (value : Data) (packages : List Package) : Type 0 where
@@ -82,33 +74,7 @@ inside_is r u place own met packages reached are all id value inner reaches text
     (own_is u place id value one.found (inner ++ home_of (modules_path place) (called one.found)) one.same one.edges
     (all.inside one.found inner one.here (subst (λ (h : Path). u (inner ++ h) ≡ Some folder) (sym home) stands)))
 
-all_found : (r u : Tree) (place : Path) (own : List Pair) (met : List Found) (packages : List Package) → IsTree u → IsReached (Some r) own met → ArePackages (Some r) own met packages → IsBuilt u (plan_of r (modules_path place) own packages) → Finds r u place own
+pub all_found : (r u : Tree) (place : Path) (own : List Pair) (met : List Found) (packages : List Package) → IsTree u → IsReached (Some r) own met → ArePackages (Some r) own met packages → IsBuilt u (plan_of r (modules_path place) own packages) → LooksUp r u place own
 all_found r u place own met packages tree reached are is_built =
     let all = finds r (modules_path place) own packages u tree are.direct are.sound are.whole is_built in
     record { inside = inside_is r u place own met packages reached are all; project = λ named e c. all.project place e refl named c }
-
--- the two manifests that stand at one path are one
-same_manifest : (e : Option Entry) (d f : Data) → IsManifest e d → IsManifest e f → d ≡ f
-same_manifest e d f h k = same_data h.bytes k.bytes d f (same_bytes e h.bytes k.bytes h.stands.is k.stands.is) h.text k.text
-
-built_at : (registry : Option Tree) (i : Inputs) (own : List Pair) (packages : List Package) (t u r : Tree) (old new : Option Tree) → registry ≡ Some r → old ≡ Some t → new ≡ Some u → Installs registry i.place own packages old new → IsBuilt u (plan_of r (modules_path i.place) own packages)
-built_at registry i own packages t u r old new er eo en h =
-    let at : Installs (Some r) i.place own packages (Some t) new = subst (λ (o : Option Tree). Installs o i.place own packages (Some t) new) er (subst (λ (o : Option Tree). Installs registry i.place own packages o new) eo h) in
-    let same : at.0 ≡ u = let both : Some at.0 ≡ Some u = sym at.1 ∙ en in cc in
-    subst (λ (v : Tree). IsBuilt v (plan_of r (modules_path i.place) own packages)) same at.2.built
-
-done_found : (i : Inputs) (old new : World) (packages : List Package) → ((u : Tree) → new.project.tree ≡ Some u → IsTree u) → IsDone i packages old new
-    → (r t u : Tree) (d : Data) → old.registry.tree ≡ Some r → old.project.tree ≡ Some t → new.project.tree ≡ Some u → IsManifest (t (package_name ∷ i.place)) d → Finds r u i.place (edges_of d)
-done_found i old new packages tree is r t u d er et eu manifest =
-    let p = is.passed in
-    let read : IsManifest (t (package_name ∷ i.place)) p.value = subst (λ (o : Option Tree). IfSome o (λ t. IsManifest (t (package_name ∷ i.place)) p.value)) et p.manifest.read in
-    let same : p.value ≡ d = same_manifest (t (package_name ∷ i.place)) p.value d read manifest in
-    let own = edges_of p.value in
-    let met = p.behind.met in
-    subst (λ (v : Data). Finds r u i.place (edges_of v)) same
-    (all_found r u i.place own met packages (tree u eu) (subst (λ (o : Option Tree). IsReached o own met) er p.behind.reached) (subst (λ (o : Option Tree). ArePackages o own met packages) er p.behind.tree.listed)
-    (built_at old.registry.tree i own packages t u r old.project.tree new.project.tree er et eu is.written.project))
-
-pub lookup_of : (i : Inputs) (old new : World) (s : Status) → ((u : Tree) → new.project.tree ≡ Some u → IsTree u) → CauseOf i old new s → LookupOf i old new s
-lookup_of i old new Done tree h = done_found i old new h.0 tree h.1
-lookup_of i old new s tree h = tt
