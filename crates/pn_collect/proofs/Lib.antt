@@ -7,3 +7,7 @@ pub mod Folders
 pub mod Firsts
 pub mod Counts
 pub mod Passed
+pub mod Ids
+pub mod SortedTexts
+pub mod CauseLemmas
+pub mod SameLemmas

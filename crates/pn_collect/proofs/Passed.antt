@@ -15,7 +15,7 @@ use Rattle.pn_collect.specs.CollectFaults.{NoFiles}
 use Rattle.pn_collect.specs.Laws.{PassedLaw}
 use Rattle.pn_collect.specs.Outline.{Outline, outline, wanted, AreFilesBelow}
 use Rattle.pn_collect.specs.declared.fault.CollectFault.{CollectFault}
-use Rattle.pn_collect.specs.declared.fault.CollectFault.TheVariants.{Modules, TooLarge, LongPath, Entries, Fault, Memory}
+use Rattle.pn_collect.specs.declared.fault.CollectFault.TheVariants.{Modules, TooLarge, Entries, Fault, Memory}
 use Rattle.pn_collect.proofs.Counts.{no_longer}
 use Rattle.pn_collect.proofs.Lists.{from_image, in_image, true_false}
 
@@ -31,14 +31,13 @@ not_many t folder files h many =
     omega (arith, no_longer many.paths h.few.paths many.distinct among, many.many, h.few.few)
 
 -- the files that are told show no cause
-has_files : (t : Tree) (id : Id) (files : List Path) (fault : CollectFault) → ((f : Path) → Contains files f → IsSoundFile f) → AreFilesBelow t (package_folder id) files → NoFiles (Some t) id fault → ⊥
+pub has_files : (t : Tree) (id : Id) (files : List Path) (fault : CollectFault) → ((f : Path) → Contains files f → IsSoundFile f) → AreFilesBelow t (package_folder id) files → NoFiles (Some t) id fault → ⊥
 has_files t id files (Modules path) sound h cause =
     let s = cause.3.first.stands in
     true_false (sym cause.2 ∙ (sound cause.0 (h.all cause.0 (s.0, s.1))).clean)
 has_files t id files (TooLarge n) sound h cause =
     let s = cause.2.first.stands in
     omega (arith, h.short cause.0 s.0 s.1, s.2, cause.1)
-has_files t id files (LongPath n) sound h cause = cc cause.untold
 has_files t id files Entries sound h cause = not_many t (package_folder id) files h cause
 has_files t id files Fault sound h cause = cause
 has_files t id files Memory sound h cause = cause

@@ -2,10 +2,12 @@
 use Rattle.std.proofs.Common.{◌≡◌, ◌≢◌, ◌<◌, ℕ, List, [], ◌∷◌, ◌++◌, Bool, true, false, not, Option, Some, None, Result, Ok, Err, IfOk, IfSome, map, length, get_or, refl, sym, ap, ◌∙◌, subst, arith, codes, IsPermutation, IsSorted, ⊎_elim}
 use Rattle.std.specs.List.{All, Contains, IsDistinct}
 use Rattle.std.specs.Cmp.Lexicographic.{slice_cmp}
+use Rattle.std.specs.List.Sorted.{IsStrictlySortedBy}
 use Rattle.std.specs.Ordering.{nat_cmp}
+use Rattle.std.specs.declared.cmp.Ordering.TheVariants.{Less}
 use Rattle.std.proofs.lemmas.Bool.{cases_lt}
 use Rattle.std.proofs.lemmas.List.{get_or-map, get_or_default, length-map}
-use Rattle.std.proofs.lemmas.List.Elements.{All-nil, All-cons, All-contains, All-contains_itself, All-weaker, All-map, filter_passes}
+use Rattle.std.proofs.lemmas.List.Elements.{All-nil, All-cons, All-contains, All-contains_itself, All-from_recursion, All-weaker, All-map, filter_passes, recursion_from_All}
 use Rattle.std.proofs.lemmas.List.Sorted.{IsPermutation-map, IsPermutation-sym, Contains-permutation}
 use Rattle.std.proofs.lemmas.Map.Keys.{IsDistinct-IsPermutation, apart_from_distinct}
 use Rattle.serde_json.specs.Data.{Data}
@@ -26,7 +28,10 @@ use Rattle.pn_layout.specs.Sound.{called, IsSoundPair, AreSoundDependencies, IsS
 use Rattle.pn_collect.specs.Outline.{Outline, outline, wanted, called_text, IsMade, HasFiles, HaveFiles}
 use Rattle.pn_collect.specs.Packages.{ArePackages}
 use Rattle.pn_collect.proofs.Causes.{if_all}
-use Rattle.pn_collect.proofs.Lists.{All-unmap, All-left, All-right, from_image, true_false, same_id-flips, firsts_all, distinct_firsts}
+use Rattle.pn_registry.proofs.Lists.{here, there}
+use Rattle.pn_collect.proofs.Ids.{one_id}
+use Rattle.pn_collect.proofs.SortedTexts.{below_text, not_before, sorted_tail}
+use Rattle.pn_collect.proofs.Lists.{in_image, All-unmap, All-left, All-right, from_image, true_false, same_id-flips, firsts_all, distinct_firsts}
 
 -- These packages are those that are reached, in some order.
 record IsOf (r : Option Tree) (own : List Pair) (met : List Found) (v : List Package) : Type 0 where
@@ -167,10 +172,10 @@ sound {r} {own} {met} {v} h = record { each = sound_package h; apart = λ p q c 
 exact : {r : Option Tree} {own : List Pair} {met : List Found} {v : List Package} → IsOf r own met v → IsPermutation (map wanted met) (map outline v)
 exact {r} {own} {met} {v} h = subst (IsPermutation (map wanted met)) (sym h.same) (IsPermutation-map wanted met h.sorted h.order)
 
-out_text : Outline → List ℕ
+pub out_text : Outline → List ℕ
 out_text o = o.pair.0 ++ 64 ∷ o.pair.1
 
-texts_of : (v : List Package) → map called_text v ≡ map out_text (map outline v)
+pub texts_of : (v : List Package) → map called_text v ≡ map out_text (map outline v)
 unfolding out_text
 texts_of [] = refl
 texts_of (p ∷ v) = ap (λ (l : List (List ℕ)). called_text p ∷ l) (texts_of v)
@@ -180,8 +185,24 @@ unfolding out_text
 texts_wanted [] = refl
 texts_wanted (q ∷ qs) = ap (λ (l : List (List ℕ)). package_text q ∷ l) (texts_wanted qs)
 
-in_order : (sorted : List Found) (v : List Package) → map outline v ≡ map wanted sorted → IsSorted (slice_cmp nat_cmp) (map package_text sorted) → IsSorted (slice_cmp nat_cmp) (map called_text v)
-in_order sorted v same h = subst (IsSorted (slice_cmp nat_cmp)) (sym (texts_of v ∙ ap (map out_text) same ∙ texts_wanted sorted)) h
+-- the texts of packages that are in order rise, since no two are one
+rise : (v : List Package) → ((p : Package) → Contains v p → IsSoundPair (called p)) → IsDistinct same_id (map key v) → IsSorted (slice_cmp nat_cmp) (map called_text v) → IsStrictlySortedBy (slice_cmp nat_cmp) (map called_text v)
+unfolding key IsDistinct IsStrictlySortedBy
+rise [] sound h sorted = tt
+rise (p ∷ v) sound h sorted = (
+  recursion_from_All (λ y. slice_cmp nat_cmp (called_text p) y ≡ Less) (map called_text v) (All-map (λ y. slice_cmp nat_cmp (called_text p) y ≡ Less) called_text v (All-weaker (Contains v) (λ q. slice_cmp nat_cmp (called_text p) (called_text q) ≡ Less) later v (All-contains_itself v))),
+  rise v (λ q c. sound q (there p v q c)) h.1 (sorted_tail (called_text p) (map called_text v) sorted),
+) where
+  later : (q : Package) → Contains v q → slice_cmp nat_cmp (called_text p) (called_text q) ≡ Less
+  later q c = below_text (called_text p) (called_text q) (not_before (called_text p) (map called_text v) (called_text q) sorted (in_image called_text v q c))
+      (λ e.
+      let same : key p ≡ key q = one_id (key p) (key q) (sound p (here p v)).exact (sound q (there p v q c)).exact e in
+      let is : same_id (key p) (key q) ≡ true = ap (λ (x : Id). same_id x (key q)) same ∙ same_id-refl (key q) in
+      true_false (sym is ∙ All-contains (λ i. same_id (key p) i ≡ false) (map key v) (key q) (All-from_recursion (λ i. same_id (key p) i ≡ false) (map key v) h.0) (in_image key v q c)))
+
+in_order : {r : Option Tree} {own : List Pair} {met : List Found} {v : List Package} → IsOf r own met v → (sorted : List Found) → map outline v ≡ map wanted sorted → IsSorted (slice_cmp nat_cmp) (map package_text sorted) → IsStrictlySortedBy (slice_cmp nat_cmp) (map called_text v)
+in_order {r} {own} {met} {v} is sorted same h =
+    rise v (λ p c. (All-contains IsMade v p is.made c).pair) (distinct is) (subst (IsSorted (slice_cmp nat_cmp)) (sym (texts_of v ∙ ap (map out_text) same ∙ texts_wanted sorted)) h)
 
 have_files : (t : Tree) (v : List Package) → All (HasFiles t) v → HaveFiles t v
 have_files t v h p c = All-contains (HasFiles t) v p h c
@@ -199,7 +220,8 @@ packages_of items (Ok v) r own met sorted rising reached order rises same made f
       direct = direct is rising;
       whole = whole is;
       exact = exact is;
-      sorted = in_order sorted (items v) same rises;
+      sorted = in_order is sorted same rises;
+      rising = λ p c. (All-contains IsMade (items v) p made c).files.rising;
       stand = if_all (λ t. All (HasFiles t) (items v)) (λ t. FilesStand t (items v)) r (λ t. files_stand t (items v)) files;
       files = if_all (λ t. All (HasFiles t) (items v)) (λ t. HaveFiles t (items v)) r (λ t. have_files t (items v)) files;
     }

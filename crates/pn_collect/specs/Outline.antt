@@ -1,7 +1,10 @@
 -- The packages of an install beside those that a project reaches.
-use Rattle.std.specs.Prelude.{◌≡◌, ◌≢◌, ◌≤◌, ℕ, List, [], ◌∷◌, ◌++◌, length, Some}
+use Rattle.std.specs.Prelude.{◌≡◌, ◌≢◌, ◌≤◌, ℕ, List, [], ◌∷◌, ◌++◌, length, map, Some}
+use Rattle.std.specs.Cmp.Lexicographic.{slice_cmp}
 use Rattle.std.specs.List.{Contains}
-use Rattle.pn_text.specs.Path.{Path, path_text}
+use Rattle.std.specs.List.Sorted.{IsStrictlySortedBy}
+use Rattle.std.specs.Ordering.{nat_cmp}
+use Rattle.pn_text.specs.Path.{Path, path_text, text_below}
 use Rattle.pn_fs.specs.Tree.{Tree, IsFile, file}
 use Rattle.pn_node.specs.Plan.{IsSoundFile}
 use Rattle.pn_manifest.specs.Pairs.{Pair, IsRising}
@@ -44,8 +47,13 @@ HasFiles t p = AreFilesBelow t p.folder p.files.items
 abbrev pub HaveFiles : Tree → List Package → Type 0
 HaveFiles t packages = (p : Package) → Contains packages p → HasFiles t p
 
--- Files of a package stand below its folder, none is above another, and each has a path in the registry.
+-- byte order of their texts, each once
+abbrev pub AreRising : List Path → Type 0
+AreRising files = IsStrictlySortedBy (slice_cmp nat_cmp) (map text_below files)
+
+-- Files of a package stand below its folder, in order, none is above another, and each has a path in the registry.
 pub record AreSoundFiles (folder : Path) (files : List Path) : Type 0 where
+  pub rising : AreRising files
   pub each : (f : Path) → Contains files f → IsSoundFile f
   pub apart : (s f : Path) → Contains files f → Contains files (s ++ f) → s ≡ []
   pub short : (f : Path) → Contains files f → length (path_text (f ++ folder)) ≤ 4096
@@ -59,10 +67,9 @@ pub record IsMade (p : Package) : Type 0 where
 abbrev pub path_of : File → Path
 path_of f = f.0
 
--- below the folder, with a path in the registry
-pub record IsPlaced (folder : Path) (f : Path) : Type 0 where
-  pub below : f ≢ []
-  pub short : length (path_text (f ++ folder)) ≤ 4096
+-- below the folder
+abbrev pub IsBelow : Path → Type 0
+IsBelow f = f ≢ []
 
 -- The package has the name, version and dependencies of the one that is reached.
 pub record IsBare (q : Found) (p : Package) : Type 0 where

@@ -2,13 +2,11 @@
 use pn_text::{AbsPath, Memory};
 
 /// Why the packages of an install aren't told: the registry's path of a file with a part `node_modules`; a file of so
-/// many bytes, past 268,435,456; the registry's path of a file with so many bytes, past 4,096; more than 4,194,304
-/// entries below a package's folder; a failed call; no memory.
+/// many bytes, past 268,435,456; more than 4,194,304 entries below a package's folder; a failed call; no memory.
 #[derive(Drop)]
 pub enum CollectFault {
     Modules(AbsPath),
     TooLarge(u64),
-    LongPath(u64),
     Entries,
     Fault,
     Memory,

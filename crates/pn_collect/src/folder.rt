@@ -1,6 +1,6 @@
 // Where a package stands in the registry.
-ghost use Rattle.std.specs.Prelude.{◌≡◌, ◌≤◌, ◌++◌, IfOk, IsTrue, length};
-ghost use Rattle.pn_text.specs.Path.{path_text, text_below, is_path};
+ghost use Rattle.std.specs.Prelude.{◌≡◌, ◌≤◌, ◌++◌, IfOk, length};
+ghost use Rattle.pn_text.specs.Path.{path_text};
 ghost use Rattle.pn_registry.specs.Places.{package_folder};
 ghost use Rattle.pn_choice.specs.Edges.{id_text};
 ghost use Rattle.pn_collect.specs.CollectFaults.{NamesModules};
@@ -23,36 +23,14 @@ pub fn package_folder(alloc: Global, id: &ExactId) -> Result<AbsPath, Memory>
     }
 }
 
-/// The length in bytes of the path of a file below a folder.
-pub fn joined_length(folder: &AbsPath, path: &RelPath) -> u64
-    ensures { result ≡ length (path_text (path.now ++ folder.now)) }
-{
-    let above = stem_length(folder);
-    let text = path.as_str();
-    above + text.len() as u64 + 1
-}
-
-// The length of what stands before an entry's slash.
-fn stem_length(folder: &AbsPath) -> u64
-    ensures length { result ≡ length (text_below folder.now) }
-    ensures good { IsTrue (is_path folder.now) }
-    ensures short { result ≤ 4096 }
-{
-    let text = folder.as_str();
-    if folder.is_root() {
-        0
-    } else {
-        text.len() as u64
-    }
-}
-
 /// The refusal of a file with a part `node_modules`.
 pub fn modules(alloc: Global, folder: &AbsPath, path: &RelPath) -> CollectFault
+    requires { length (path_text (path.now ++ folder.now)) ≤ 4096 }
     ensures { NamesModules folder.now path.now result }
 {
     match folder.join(alloc, path) {
         Ok(path) => CollectFault::Modules(path),
         Err(PathFault::Memory) => CollectFault::Memory,
-        Err(_) => CollectFault::LongPath(joined_length(folder, path)),
+        Err(_) => unreachable!(),
     }
 }

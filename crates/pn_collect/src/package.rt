@@ -61,7 +61,10 @@ fn listed<R: ReadFs>(
     ensures refused { IfErr result (CollectRefuses (λ r. NoFiles r id.now) (R.seen registry.old) (R.seen registry.new)) }
 {
     match files(alloc, registry, id) {
-        Ok(files) => paths(alloc, folder, &files),
+        Ok(files) => match paths(alloc, &files) {
+            Ok(paths) => Ok(paths),
+            Err(_) => Err(CollectFault::Memory),
+        },
         Err(FilesFault::Modules(path)) => Err(modules(alloc, folder, &path)),
         Err(FilesFault::TooLarge(_, length)) => Err(CollectFault::TooLarge(length)),
         Err(FilesFault::Entries) => Err(CollectFault::Entries),

@@ -8,7 +8,6 @@ ghost use Rattle.pn_choice.specs.Edges.{edges_by, package_text};
 ghost use Rattle.pn_choice.specs.Found.{IsPackage};
 ghost use Rattle.pn_choice.specs.Walked.{IsReached};
 ghost use Rattle.pn_collect.specs.CollectFaults.{CollectRefuses, IsFirstRefused};
-ghost use Rattle.pn_collect.specs.Laws.{PassedLaw};
 ghost use Rattle.pn_collect.specs.Outline.{outline, wanted, HasFiles, IsMade};
 ghost use Rattle.pn_collect.specs.Packages.{ArePackages};
 
@@ -40,11 +39,6 @@ pub fn collect<R: ReadFs>(
         Err(_) => Err(CollectFault::Memory),
     }
 }
-
-/// Where packages have their files, none of them is refused.
-pub fn passed_law()
-    ensures { PassedLaw }
-{}
 
 // The packages in the order given.
 fn packages<R: ReadFs>(

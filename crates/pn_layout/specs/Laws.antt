@@ -1,19 +1,21 @@
 -- What is known of the plan of an install.
-use Rattle.std.specs.Prelude.{◌≡◌, ◌≢◌, ℕ, true, false, List, ◌∷◌, ◌++◌, Some, None}
+use Rattle.std.specs.Prelude.{◌≡◌, ◌≢◌, ◌≤◌, ℕ, true, false, List, ◌∷◌, ◌++◌, length, map, Some, None}
 use Rattle.std.specs.List.{Contains}
-use Rattle.pn_text.specs.Path.{Path}
+use Rattle.pn_text.specs.Path.{Path, path_text}
 use Rattle.pn_text.specs.Name.{is_name, name_path, modules}
-use Rattle.pn_fs.specs.Tree.{folder, Tree, IsTree}
+use Rattle.pn_fs.specs.Tree.{Entry, folder, Tree, IsTree}
 use Rattle.pn_node.specs.Find.{find}
-use Rattle.pn_node.specs.Plan.{IsBuilt, IsSound}
+use Rattle.pn_node.specs.Plan.{InBuild, IsBuilt, IsSound}
 use Rattle.pn_node.specs.Finds.{LeadsToFolders, ends_in_modules}
 use Rattle.pn_plan.specs.declared.planned.Planned.{Planned}
 use Rattle.pn_plan.specs.Writes.{IsWritten}
 use Rattle.pn_manifest.specs.Pairs.{Pair}
 use Rattle.pn_layout.specs.declared.packages.Package.{Package}
 use Rattle.pn_layout.specs.Store.{store_of, home_of}
-use Rattle.pn_layout.specs.Sound.{called, AreSound, AreSoundDependencies, AreWhole}
+use Rattle.pn_layout.specs.Sound.{called, contents, AreSound, AreSoundDependencies, AreWhole}
 use Rattle.pn_layout.specs.Layout.{plan_of, IsLaidOut}
+use Rattle.pn_layout.specs.Refusals.{LayoutRefused}
+use Rattle.pn_layout.specs.declared.fault.LayoutFault.TheVariants.{TooLong}
 
 -- The plan of sound packages is sound.
 abbrev pub SoundLaw : Type 0
@@ -58,3 +60,13 @@ pub record FindsAll (u : Tree) (top : Path) (direct : List Pair) (packages : Lis
 abbrev pub FindsLaw : Type 0
 FindsLaw = (r : Tree) (top : Path) (direct : List Pair) (packages : List Package) (u : Tree) → IsTree u → AreSoundDependencies direct → AreSound packages → AreWhole direct packages
     → IsBuilt u (plan_of r top direct packages) → FindsAll u top direct packages
+
+-- Where the paths of a build aren't too long, a list of the same packages isn't refused for one.
+abbrev pub PassedLaw : Type 0
+PassedLaw = (r : Tree) (top : Path) (direct : List Pair) (packages others : List Package) (size : ℕ) → map contents packages ≡ map contents others
+    → ((q : Path) (e : Entry) → InBuild (plan_of r top direct packages) q e → length (path_text q) ≤ 4096) → LayoutRefused top direct others (TooLong size) → ⊥
+
+-- The length that is told is settled by what the packages have.
+abbrev pub CauseLaw : Type 0
+CauseLaw = (top : Path) (direct : List Pair) (packages others : List Package) (size other : ℕ) → map contents packages ≡ map contents others
+    → LayoutRefused top direct packages (TooLong size) → LayoutRefused top direct others (TooLong other) → size ≡ other

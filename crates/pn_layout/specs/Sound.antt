@@ -13,6 +13,16 @@ use Rattle.pn_layout.specs.declared.packages.Package.{Package}
 abbrev pub called : Package → Pair
 called p = (p.name, p.version)
 
+-- all that a package has
+pub record Contents : Type 0 where
+  pub pair : Pair
+  pub dependencies : List Pair
+  pub folder : Path
+  pub files : List Path
+
+abbrev pub contents : Package → Contents
+contents p = record { pair = called p; dependencies = p.dependencies; folder = p.folder; files = p.files.items }
+
 -- a package name and an exact version
 pub record IsSoundPair (d : Pair) : Type 0 where
   pub named : is_name d.0 ≡ true

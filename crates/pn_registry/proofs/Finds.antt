@@ -72,7 +72,7 @@ find_first so (x ∷ fs) f rising h = elim (either (so x) x f (find so fs) h) [
 ]
 
 -- a file of the tree is in the list
-listed_file : (t : Tree) (at : Path) (fs : List File) → IsFilesOf t at fs → (q : Path) (n : ℕ) → IsFileOf n (t (q ++ at)) → Contains fs (q, n)
+pub listed_file : (t : Tree) (at : Path) (fs : List File) → IsFilesOf t at fs → (q : Path) (n : ℕ) → IsFileOf n (t (q ++ at)) → Contains fs (q, n)
 listed_file t at fs of q n h = subst (λ k. Contains fs (q, k)) (sym h.2) (of.all q h.0 h.1)
 
 pub first_in_tree : (so : File → Bool) (t : Tree) (at : Path) (fs : List File) (f : File) → IsFilesOf t at fs → IsFirst so fs f → IsFirstFile so t at f

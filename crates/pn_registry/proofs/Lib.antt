@@ -11,3 +11,6 @@ pub mod Refusals
 pub mod Clean
 pub mod Above
 pub mod Keeping
+pub mod Distinct
+pub mod FilesLawLemmas
+pub mod ShortFiles

@@ -73,7 +73,7 @@ path_front [] p h = refl
 path_front (x ∷ q) p h = let a = and_left (is_part x) (is_path (q ++ p)) h in let b = path_front q p (and_right (is_part x) (is_path (q ++ p)) h) in rw (a, b) refl
 
 -- the path of a file below a folder is good
-good_below : (t : Tree) → IsTree t → (at q : Path) (n : ℕ) → IsFileOf n (t (q ++ at)) → IsTrue (is_path q)
+pub good_below : (t : Tree) → IsTree t → (at q : Path) (n : ℕ) → IsFileOf n (t (q ++ at)) → IsTrue (is_path q)
 good_below t tree at q n f = path_front q at (tree.paths (q ++ at) (file f.0) f.1).0
 
 pub same_path : (p q : Path) → IsTrue (is_path p) → IsTrue (is_path q) → text_below p ≡ text_below q → p ≡ q
@@ -82,7 +82,7 @@ same_path p q a b e = sym (parts_from-text_below p a) ∙ ap (parts_from []) e �
 same_bytes : (x y : List ℕ) → Some (file x) ≡ Some (file y) → x ≡ y
 same_bytes x y e = cc
 
-same_length : (t : Tree) (p : Path) (m n : ℕ) → IsFileOf m (t p) → IsFileOf n (t p) → m ≡ n
+pub same_length : (t : Tree) (p : Path) (m n : ℕ) → IsFileOf m (t p) → IsFileOf n (t p) → m ≡ n
 same_length t p m n a b = let same : a.0 ≡ b.0 = same_bytes a.0 b.0 (sym a.1 ∙ b.1) in a.2 ∙ ap length same ∙ sym b.2
 
 -- in a tree nothing is left out

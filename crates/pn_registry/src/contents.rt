@@ -5,11 +5,11 @@ ghost use Rattle.std.specs.List.{All};
 ghost use Rattle.pn_fs.specs.Tree.{folder};
 ghost use Rattle.pn_fs.specs.Seen.{Keeps};
 ghost use Rattle.pn_registry.specs.Places.{package_folder};
-ghost use Rattle.pn_registry.specs.Files.{IsFilesOf, IsClean};
+ghost use Rattle.pn_registry.specs.Files.{IsFilesOf, IsClean, IsShortBelow};
 ghost use Rattle.pn_registry.specs.Apart.{AreApart};
 ghost use Rattle.pn_registry.specs.Below.{HasFew};
 ghost use Rattle.pn_registry.specs.Listed.{file_of};
-ghost use Rattle.pn_registry.specs.FilesFaults.{FilesRefused, NotWalked, IsModular, IsLong, IsPassed, IsNamed, is_modular, is_large, entry_limit};
+ghost use Rattle.pn_registry.specs.FilesFaults.{FilesRefused, NotWalked, IsModular, IsLong, IsPassed, IsNamed, NamesShort, is_modular, is_large, entry_limit};
 
 use crate::apart::in_order_apart;
 use crate::folder::package_folder;
@@ -44,6 +44,8 @@ pub fn files<R: ReadFs>(alloc: Global, reg: &mut R, id: &ExactId) -> Result<File
     ensures few { IfSome (R.seen reg.old).tree (λ t. OnOk result (HasFew t (package_folder id.now) entry_limit)) }
     ensures clean { IfOk result (All IsClean) }
     ensures apart { IfOk result AreApart }
+    ensures short { IfOk result (All (IsShortBelow (package_folder id.now))) }
+    ensures named { IfErr result (NamesShort (package_folder id.now)) }
     ensures kept { Keeps (R.seen reg.old) (R.seen reg.new) }
     ensures fault { IfErr result (FilesRefused (package_folder id.now) (R.seen reg.old) (R.seen reg.new)) }
 {
@@ -61,6 +63,8 @@ fn files_at<R: ReadFs>(alloc: Global, reg: &mut R, at: &AbsPath) -> Result<Files
     ensures few { IfSome (R.seen reg.old).tree (λ t. OnOk result (HasFew t at.now entry_limit)) }
     ensures clean { IfOk result (All IsClean) }
     ensures apart { IfOk result AreApart }
+    ensures short { IfOk result (All (IsShortBelow at.now)) }
+    ensures named { IfErr result (NamesShort at.now) }
     ensures kept { Keeps (R.seen reg.old) (R.seen reg.new) }
     ensures fault { IfErr result (FilesRefused at.now (R.seen reg.old) (R.seen reg.new)) }
 {
@@ -79,6 +83,7 @@ fn all_files<R: ReadFs>(alloc: Global, reg: &mut R, at: &AbsPath) -> Result<File
     ensures files { IfSome (R.seen reg.old).tree (λ t. IfOk result (IsFilesOf t at.now)) }
     ensures few { IfSome (R.seen reg.old).tree (λ t. OnOk result (HasFew t at.now entry_limit)) }
     ensures apart { IfOk result AreApart }
+    ensures short { IfOk result (All (IsShortBelow at.now)) }
     ensures kept { Keeps (R.seen reg.old) (R.seen reg.new) }
     ensures fault { IfErr result (NotWalked at.now (R.seen reg.old) (R.seen reg.new)) }
 {

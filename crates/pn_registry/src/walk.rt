@@ -6,9 +6,9 @@ ghost use Rattle.pn_text.specs.Path.{is_part, path_text};
 ghost use Rattle.pn_fs.specs.Tree.{folder};
 ghost use Rattle.pn_fs.specs.Seen.{Keeps};
 ghost use Rattle.pn_fs.specs.Calls.{IsListing, IsEntryName};
-ghost use Rattle.pn_registry.specs.Files.{IsFilesOf};
+ghost use Rattle.pn_registry.specs.Files.{IsFilesOf, IsShortBelow};
 ghost use Rattle.pn_registry.specs.Below.{IsWithin, AllWithin, HasFew};
-ghost use Rattle.pn_registry.specs.Listed.{file_of, placed};
+ghost use Rattle.pn_registry.specs.Listed.{file_of, placed, IsShortFile};
 ghost use Rattle.pn_registry.specs.Turns.{Takes, TakesAll, Lists, ListRefused, CallRefused, WalkRefused};
 
 use crate::list::PackageFile;
@@ -36,6 +36,7 @@ pub fn walk<R: ReadFs>(
     requires small { limit < 2 ^ 40 }
     ensures files { IfSome (R.seen reg.old).tree (λ t. IfOk result (λ v. IsFilesOf t at.now (map file_of v.items))) }
     ensures few { IfSome (R.seen reg.old).tree (λ t. OnOk result (HasFew t at.now limit)) }
+    ensures short { IfOk result (λ v. All (IsShortFile at.now) v.items) }
     ensures kept { Keeps (R.seen reg.old) (R.seen reg.new) }
     ensures fault { IfErr result (WalkRefused (R.seen reg.old) (R.seen reg.new) at.now limit) }
 {
@@ -68,10 +69,12 @@ fn list_folder<R: ReadFs>(
     requires deep { at.now ≢ [] }
     requires within { IsWithin at.now parent.now }
     requires all_within { AllWithin at.now todo.old.items }
+    requires short { All (IsShortFile at.now) found.old.items }
     ensures lists { IfSome (R.seen reg.old).tree (λ t. IfOk result (λ n. Lists t parent.now n todo.old.items todo.new.items (map (placed at.now) found.old.items) (map (placed at.now) found.new.items))) }
     ensures room { IfOk result (λ n. n ≤ room) }
     ensures grows { IfOk result (λ n. vec_len todo.new ≤ vec_len todo.old + n) }
     ensures all_within { OnOk result (AllWithin at.now todo.new.items) }
+    ensures short { OnOk result (All (IsShortFile at.now) found.new.items) }
     ensures kept { Keeps (R.seen reg.old) (R.seen reg.new) }
     ensures fault { IfErr result (ListRefused (R.seen reg.old) (R.seen reg.new) parent.now room) }
 {
@@ -111,9 +114,11 @@ fn take_all<R: ReadFs>(
     requires deep { at.now ≢ [] }
     requires within { IsWithin at.now parent.now }
     requires all_within { AllWithin at.now todo.old.items }
+    requires short { All (IsShortFile at.now) found.old.items }
     ensures takes { IfSome (R.seen reg.old).tree (λ t. OnOk result (TakesAll t parent.now names.now todo.old.items todo.new.items (map (placed at.now) found.old.items) (map (placed at.now) found.new.items))) }
     ensures grows { OnOk result (vec_len todo.new ≤ vec_len todo.old + length names.now) }
     ensures all_within { OnOk result (AllWithin at.now todo.new.items) }
+    ensures short { OnOk result (All (IsShortFile at.now) found.new.items) }
     ensures kept { Keeps (R.seen reg.old) (R.seen reg.new) }
     ensures fault { IfErr result (CallRefused (R.seen reg.old) (R.seen reg.new)) }
 {
@@ -137,9 +142,11 @@ fn take<R: ReadFs>(
     requires deep { at.now ≢ [] }
     requires within { IsWithin at.now parent.now }
     requires all_within { AllWithin at.now todo.old.items }
+    requires short { All (IsShortFile at.now) found.old.items }
     ensures takes { IfSome (R.seen reg.old).tree (λ t. OnOk result (Takes t parent.now name.now todo.old.items todo.new.items (map (placed at.now) found.old.items) (map (placed at.now) found.new.items))) }
     ensures grows { OnOk result (vec_len todo.new ≤ vec_len todo.old + 1) }
     ensures all_within { OnOk result (AllWithin at.now todo.new.items) }
+    ensures short { OnOk result (All (IsShortFile at.now) found.new.items) }
     ensures kept { Keeps (R.seen reg.old) (R.seen reg.new) }
     ensures fault { IfErr result (CallRefused (R.seen reg.old) (R.seen reg.new)) }
 {
@@ -183,7 +190,9 @@ fn push_file(
     requires deep { at.now ≢ [] }
     requires within { IsWithin at.now path.now }
     requires below { path.now ≢ at.now }
+    requires short { All (IsShortFile at.now) found.old.items }
     ensures items { OnOk result (map (placed at.now) found.new.items ≡ map (placed at.now) found.old.items ++ (path.now, length) ∷ []) }
+    ensures short { OnOk result (All (IsShortFile at.now) found.new.items) }
     ensures memory { IfErr result (λ e. e ≡ WalkFault.Memory) }
 {
     let path = below(alloc, at, path)?;
@@ -197,6 +206,7 @@ fn below(alloc: Global, at: &AbsPath, path: &AbsPath) -> Result<RelPath, WalkFau
     requires within { IsWithin at.now path.now }
     requires below { path.now ≢ at.now }
     ensures path { IfOk result (λ p. path.now ≡ p ++ at.now) }
+    ensures short { IfOk result (λ p. length (path_text (p ++ at.now)) ≤ 4096) }
     ensures memory { IfErr result (λ e. e ≡ WalkFault.Memory) }
 {
     let rest = behind(path.as_str(), at.as_str().len());

@@ -1,8 +1,9 @@
 use Rattle.std.proofs.Common.{◌≤◌, ◌+◌, vec_len, map, drop}
+use Rattle.std.specs.List.{All}
 use Rattle.std.specs.Option.{ForSome}
 use Rattle.pn_fs.specs.Seen.{Keeps}
 use Rattle.pn_registry.specs.Below.{AllWithin}
-use Rattle.pn_registry.specs.Listed.{placed}
+use Rattle.pn_registry.specs.Listed.{placed, IsShortFile}
 use Rattle.pn_registry.proofs.Leads.{Leads}
 use Rattle.pn_registry.proofs.walk.take_all.Given as goal
 
@@ -10,6 +11,7 @@ abbrev pub invariant-loop-name : goal.invariant-loop-name
 invariant-loop-name g l = record {
   kept : Keeps (g.R.ReadFs.seen l.fn.reg) (g.R.ReadFs.seen l.reg);
   all_within : AllWithin l.at l.todo.items;
+  short : All (IsShortFile l.at) l.found.items;
   grows : vec_len l.todo ≤ vec_len l.fn.todo + l.name-index;
   leads : ForSome (g.R.ReadFs.seen l.fn.reg).tree (λ t. Leads t l.parent (drop l.name-index l.names) l.names l.fn.todo.items l.todo.items (map (placed l.at) l.fn.found.items) (map (placed l.at) l.found.items));
 }

@@ -1,10 +1,10 @@
 use Rattle.std.proofs.Common.{◌≡◌, ◌∙◌, ◌++◌, ◌∷◌, ◌-◌, [], take, ap, refl, sym, subst, arith, map}
-use Rattle.std.specs.List.{Contains}
-use Rattle.std.proofs.lemmas.List.Elements.{Contains-push}
+use Rattle.std.specs.List.{All, Contains}
+use Rattle.std.proofs.lemmas.List.Elements.{All-nil, Contains-push}
 use Rattle.pn_read.proofs.Kept.{keeps_on}
 use Rattle.pn_registry.specs.Below.{AllWithin, HasFew}
 use Rattle.pn_registry.specs.Files.{IsFilesOf}
-use Rattle.pn_registry.specs.Listed.{file_of, placed}
+use Rattle.pn_registry.specs.Listed.{file_of, placed, IsShortFile}
 use Rattle.pn_registry.specs.Turns.{Lists}
 use Rattle.pn_registry.proofs.Leads.{for_some, if_some}
 use Rattle.pn_registry.proofs.Walks.{Walks, at_first, turned, files_found, few_seen}
@@ -19,6 +19,7 @@ folders-init g c =
       kept = record { tree = refl; touched = refl; later = omega arith };
       within = omega arith;
       all_within = subst (AllWithin c.args.at.now) (sym todo) (within_itself c.args.at.now, tt);
+      short = subst (All (IsShortFile c.args.at.now)) (sym c.new-found.ensures.items) (All-nil (IsShortFile c.args.at.now));
       walks = λ t told. subst (λ d. Walks t c.args.at.now d (map (placed c.args.at.now) c.new-found.result.items) 0) (sym todo)
           (subst (λ f. Walks t c.args.at.now (c.args.at.now ∷ []) (map (placed c.args.at.now) f) 0) (sym c.new-found.ensures.items) (at_first t c.args.at.now (c.requires.folder t told)));
     }
@@ -41,6 +42,7 @@ folders-preserved g c =
       kept = keeps_on inv.kept c.in-Ok.ensures.kept;
       within = omega (arith, inv.within, c.in-Ok.ensures.room);
       all_within = c.in-Ok.ensures.all_within;
+      short = c.in-Ok.ensures.short;
       walks = λ t told.
           turned t (g.met.R.ReadFs.well_formed c.args.reg.now t told) c.args.at.now c.in-Some.folder c.folders.todo.items c.pop.new.self.items c.list_folder.new.todo.items
           (map (placed c.args.at.now) c.folders.found.items) (map (placed c.args.at.now) c.list_folder.new.found.items) c.folders.listed c.in-Ok.count _

@@ -1,8 +1,9 @@
 use Rattle.std.proofs.Common.{◌≤◌, ◌+◌, ◌-◌, ◌*◌, vec_len, map}
+use Rattle.std.specs.List.{All}
 use Rattle.std.specs.Option.{ForSome}
 use Rattle.pn_fs.specs.Seen.{Keeps}
 use Rattle.pn_registry.specs.Below.{AllWithin}
-use Rattle.pn_registry.specs.Listed.{placed}
+use Rattle.pn_registry.specs.Listed.{placed, IsShortFile}
 use Rattle.pn_registry.proofs.Walks.{Walks}
 use Rattle.pn_registry.proofs.walk.walk.Given as goal
 
@@ -11,6 +12,7 @@ invariant-folders g l = record {
   kept : Keeps (g.R.ReadFs.seen l.fn.reg) (g.R.ReadFs.seen l.reg);
   within : l.listed ≤ l.limit;
   all_within : AllWithin l.at l.todo.items;
+  short : All (IsShortFile l.at) l.found.items;
   walks : ForSome (g.R.ReadFs.seen l.fn.reg).tree (λ t. Walks t l.at l.todo.items (map (placed l.at) l.found.items) l.listed);
 }
 
