@@ -5,7 +5,7 @@ use Rattle.pn_choice.specs.declared.fault.ReachFault.{ReachFault}
 use Rattle.pn_choice.specs.declared.fault.ReachFault.TheVariants.{NotYet as FaultNotYet, NoVersion as FaultNoVersion, TextLimit as FaultText, Manifest as FaultManifest, Packages as FaultPackages, Fault as ReachFailed, Memory as NoReachMemory}
 use Rattle.pn_choice.specs.Refusals.{IsStopped}
 use Rattle.pn_collect.specs.declared.fault.CollectFault.{CollectFault}
-use Rattle.pn_collect.specs.declared.fault.CollectFault.TheVariants.{Modules, TooLarge, LongPath, Entries as FaultEntries, Fault as CollectFailed, Memory as NoCollectMemory}
+use Rattle.pn_collect.specs.declared.fault.CollectFault.TheVariants.{Modules, TooLarge, Entries as FaultEntries, Fault as CollectFailed, Memory as NoCollectMemory}
 use Rattle.pn_collect.specs.CollectFaults.{IsFirstRefused}
 use Rattle.pn_cmd.specs.declared.status.Which.TheVariants.{Packages, File, Text, Path as PathLength, Entries}
 use Rattle.pn_cmd.specs.declared.status.Status.{Status}
@@ -16,7 +16,7 @@ use Rattle.pn_cmd.specs.Names.{workspace_name, package_name, lock_name, modules_
 use Rattle.pn_cmd.specs.Standing.{Stands}
 use Rattle.pn_cmd.specs.Manifests.{NoManifest}
 use Rattle.pn_cmd.specs.Graph.{reach_status}
-use Rattle.pn_cmd.specs.Known.{Graph, Project, Contents, Build}
+use Rattle.pn_cmd.specs.Known.{Graph, Project, Sources, Build}
 use Rattle.pn_cmd.specs.Packages.{collect_status}
 use Rattle.pn_cmd.specs.Plans.{TooLong}
 use Rattle.pn_cmd.specs.Chain.{words_at, workspace_at, manifest_at, lock_at, reached_at, modules_at, listed_at, planned_at, tree, goal, install, to_workspace, to_manifest, to_lock, to_reached, to_modules, to_listed, StandsAt, at_words, at_workspace, at_manifest, at_lock, at_reached, at_modules, at_listed, at_planned}
@@ -82,7 +82,6 @@ reached_cause i old new s h r = subst (CauseOf i old new) (sym h.2.1) (reach_cau
 collect_cause : (i : Inputs) (old new : World) (k : Graph) → to_modules.Finds i (shown old).trees k → (fault : CollectFault) → IsFirstRefused k.met old.registry.tree fault → CauseOf i old new (collect_status fault)
 collect_cause i old new k f (Modules path) h = inr (inr (inr (k, f, (Modules path, refl, h))))
 collect_cause i old new k f (TooLarge n) h = inl (k, f, (TooLarge n, refl, h))
-collect_cause i old new k f (LongPath n) h = inr (inr (inl (k, f, (LongPath n, refl, h))))
 collect_cause i old new k f FaultEntries h = (k, f, (FaultEntries, refl, h))
 collect_cause i old new k f CollectFailed h = absurd h.refused
 collect_cause i old new k f NoCollectMemory h = tt
@@ -91,8 +90,8 @@ listed_cause : (i : Inputs) (old new : World) (s : Status) → IsUnlisted i (sho
 listed_cause i old new RegistryFault h r = r.0
 listed_cause i old new s h r = subst (CauseOf i old new) (sym h.2.1) (collect_cause i old new h.0 h.1 h.2.0 h.2.2)
 
-planned_cause : (i : Inputs) (old new : World) (s : Status) (k : Contents) → TooLong k (shown old) s → IsUnplanned i (shown old) s → CauseOf i old new s
-planned_cause i old new (Limit PathLength n) k h all = inr (inr (inr all))
+planned_cause : (i : Inputs) (old new : World) (s : Status) (k : Sources) → TooLong k (shown old) s → IsUnplanned i (shown old) s → CauseOf i old new s
+planned_cause i old new (Limit PathLength n) k h all = inr (inr all)
 planned_cause i old new s k h all = absurd h
 
 at_point : (i : Inputs) (old new : World) (s : Status) → StandsAt i (shown old) s → Refuses (install.Cause i) old new s → CauseOf i old new s

@@ -103,7 +103,7 @@ pub reported_by : (s : Status) (i : Inputs) (old mid new : World) (text : List �
 reported_by s i old mid new text ready tree after k is held writes same h =
     report_end s (build_of i.place is.0 is.1 ready.packages.items ready.plan) is.2 (written_by i old mid new ready tree after k is held writes) (subst (λ (r : List ℕ). Reported r old.out new.out s) same h)
   where
-    report_end : (s : Status) (b : Build) → install.Finds i (trees_of old) b → Written i b old new → Reported (report b.contents.packages) old.out new.out s → Ends i old new s
+    report_end : (s : Status) (b : Build) → install.Finds i (trees_of old) b → Written i b old new → Reported (report b.sources.packages) old.out new.out s → Ends i old new s
     report_end Done b f w h = done b (record { passed = f; written = w; told = h })
     report_end Memory b f w h = unreported Memory b f tt w h
     report_end SinkFault b f w h = unreported SinkFault b f (h.0, tt) w h.1

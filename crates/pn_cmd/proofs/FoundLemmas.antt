@@ -18,7 +18,7 @@ use Rattle.pn_cmd.proofs.OrderLemmas.{same_bytes, same_data}
 use Rattle.pn_cmd.proofs.PassedLemmas.{has_passed}
 
 -- the two manifests at one path are one
-same_manifest : (e : Option Entry) (d f : Data) → IsManifest e d → IsManifest e f → d ≡ f
+pub same_manifest : (e : Option Entry) (d f : Data) → IsManifest e d → IsManifest e f → d ≡ f
 same_manifest e d f h k = same_data h.bytes k.bytes d f (same_bytes e h.bytes k.bytes h.stands.is k.stands.is) h.text k.text
 
 pub installed_at : (registry : Option Tree) (place : Path) (own : List Pair) (packages : List Package) (t u r : Tree) (old new : Option Tree) → registry ≡ Some r → old ≡ Some t → new ≡ Some u → Installs registry place own packages old new → IsInstalled (Some r) place own packages t u
@@ -31,8 +31,8 @@ pub lookup_law : LookupLaw
 lookup_law i old new ends r t u d er et eu manifest =
     let done = end_cause i old new _ ends in
     let b = done.0 in
-    let own = b.contents.graph.project.own in
+    let own = b.sources.graph.project.own in
     let p = has_passed i (trees_of old) b done.1.passed in
     let read : IsManifest (t (package_name ∷ i.place)) p.declares.value = subst (λ (o : Option Tree). IfSome o (λ t. IsManifest (t (package_name ∷ i.place)) p.declares.value)) et p.declares.manifest.read in
     let same : own ≡ edges_of d = p.declares.edges ∙ ap edges_of (same_manifest (t (package_name ∷ i.place)) p.declares.value d read manifest) in
-    subst (LooksUp r u i.place) same (installed_at old.registry.tree i.place own b.contents.packages t u r old.project.tree new.project.tree er et eu done.1.written.project).lookup
+    subst (LooksUp r u i.place) same (installed_at old.registry.tree i.place own b.sources.packages t u r old.project.tree new.project.tree er et eu done.1.written.project).lookup

@@ -1,9 +1,11 @@
 pub mod PointLemmas
+pub mod AlikeLemmas
 pub mod CauseLemmas
 pub mod EndingLemmas
 pub mod FoundLemmas
 pub mod LookupLemmas
 pub mod ManifestLemmas
+pub mod OnceLemmas
 pub mod OrderLemmas
 pub mod PassedLemmas
 pub mod RegistryTexts

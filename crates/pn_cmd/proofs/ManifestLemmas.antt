@@ -49,12 +49,12 @@ later_at : (key : List ℕ) (shown : Option Tree) (p : Path) (bytes : List ℕ) 
 later_at key None p bytes d is text right later = tt
 later_at key (Some t) p bytes d is text right later = (d, record { bytes = bytes; stands = is; text = text; right = right }, later)
 
-refused_at : (s : Status) (old new : World) (p : Path) (bytes : List ℕ) → IfSome old.project.tree (λ t. IsText (t p) bytes) → BytesRefused p bytes s → Refuses (NoManifest p) old new s
-refused_at Memory old new p bytes is h = tt
-refused_at (BadManifest text why) old new p bytes is h = (h.0, wrong_at why old.project.tree p bytes is h.1)
-refused_at (NotYet key) old new p bytes is h = later_at key old.project.tree p bytes h.0 is h.1 h.2 h.3
-refused_at s old new p bytes is h = absurd h
+refused_at : (s : Status) (old new : World) (p : Path) (bytes : List ℕ) → length (path_text p) ≤ 4096 → IfSome old.project.tree (λ t. IsText (t p) bytes) → BytesRefused p bytes s → Refuses (NoManifest p) old new s
+refused_at Memory old new p bytes fits is h = tt
+refused_at (BadManifest text why) old new p bytes fits is h = (fits, h.0, wrong_at why old.project.tree p bytes is h.1)
+refused_at (NotYet key) old new p bytes fits is h = (fits, later_at key old.project.tree p bytes h.0 is h.1 h.2 h.3)
+refused_at s old new p bytes fits is h = absurd h
 
-pub refused_err : (r : Result Manifest Status) (old new : World) (p q : Path) (bytes slice : List ℕ) → IfSome old.project.tree (λ t. IsText (t p) bytes) → slice ≡ bytes → p ≡ q → IfErr r (BytesRefused p slice) → IfErr r (Refuses (NoManifest q) old new)
-refused_err (Ok m) old new p q bytes slice is same at h = tt
-refused_err (Err s) old new p q bytes slice is same at h = subst (λ x. Refuses (NoManifest x) old new s) at (refused_at s old new p bytes is (subst (λ b. BytesRefused p b s) same h))
+pub refused_err : (r : Result Manifest Status) (old new : World) (p q : Path) (bytes slice : List ℕ) → length (path_text q) ≤ 4096 → IfSome old.project.tree (λ t. IsText (t p) bytes) → slice ≡ bytes → p ≡ q → IfErr r (BytesRefused p slice) → IfErr r (Refuses (NoManifest q) old new)
+refused_err (Ok m) old new p q bytes slice fits is same at h = tt
+refused_err (Err s) old new p q bytes slice fits is same at h = refused_at s old new q bytes fits (subst (λ x. IfSome old.project.tree (λ t. IsText (t x) bytes)) at is) (subst (λ x. BytesRefused x bytes s) at (subst (λ b. BytesRefused p b s) same h))

@@ -28,7 +28,7 @@ use Rattle.pn_cmd.specs.Words.{words}
 use Rattle.pn_cmd.specs.Standing.{standing}
 use Rattle.pn_cmd.specs.Manifests.{NoManifest, IsProjectManifest, IsWrong, IsManifest, manifest, project_later}
 use Rattle.pn_cmd.specs.Graph.{Unreached, reached}
-use Rattle.pn_cmd.specs.Known.{Graph, Contents}
+use Rattle.pn_cmd.specs.Known.{Graph, Sources}
 use Rattle.pn_cmd.specs.Packages.{Unlisted, listed}
 use Rattle.pn_cmd.specs.Plans.{planned}
 use Rattle.pn_cmd.specs.Laws.{AreTold, OrderLaw}
@@ -57,22 +57,22 @@ manifest_at t registry p d ProjectFault ok h = tt
 manifest_at t registry p d (Limit PathLength n) ok h = absurd (omega (arith, ok.fits, h.0, h.1))
 manifest_at t registry p d (Limit Text n) ok h =
     let m = ok.read in
-    absurd (omega (arith, m.stands.short, ap length (same_bytes (t p) m.bytes h.1.0 m.stands.is h.1.1), h.1.2, h.0))
-manifest_at t registry p d (BadManifest text Missing) ok h = absurd (h.1 ok.read.bytes ok.read.stands.is)
+    absurd (omega (arith, m.stands.short, ap length (same_bytes (t p) m.bytes h.2.0 m.stands.is h.2.1), h.2.2, h.1))
+manifest_at t registry p d (BadManifest text Missing) ok h = absurd (h.2 ok.read.bytes ok.read.stands.is)
 manifest_at t registry p d (BadManifest text NotJson) ok h =
     let m = ok.read in
-    absurd (h.1.2 d (subst (λ b. IsObjectText b d) (same_bytes (t p) m.bytes h.1.0 m.stands.is h.1.1.is) m.text))
+    absurd (h.2.2 d (subst (λ b. IsObjectText b d) (same_bytes (t p) m.bytes h.2.0 m.stands.is h.2.1.is) m.text))
 manifest_at t registry p d (BadManifest text (BadField f k)) ok h =
     let m = ok.read in
-    let one = same_data m.bytes h.1.0 d h.1.1 (same_bytes (t p) m.bytes h.1.0 m.stands.is h.1.2.is) m.text h.1.3 in
-    let clash : first_wrong h.1.1 ≡ None = subst (λ e. first_wrong e ≡ None) one m.right in
-    absurd (cc (clash, h.1.4))
+    let one = same_data m.bytes h.2.0 d h.2.1 (same_bytes (t p) m.bytes h.2.0 m.stands.is h.2.2.is) m.text h.2.3 in
+    let clash : first_wrong h.2.1 ≡ None = subst (λ e. first_wrong e ≡ None) one m.right in
+    absurd (cc (clash, h.2.4))
 manifest_at t registry p d (NotYet key) ok h =
     let m = ok.read in
-    let n = h.1 in
-    let one = same_data m.bytes n.bytes d h.0 (same_bytes (t p) m.bytes n.bytes m.stands.is n.stands.is) m.text n.text in
-    let clash : project_later h.0 ≡ None = subst (λ e. project_later e ≡ None) one ok.built in
-    absurd (cc (clash, h.2))
+    let n = h.1.1 in
+    let one = same_data m.bytes n.bytes d h.1.0 (same_bytes (t p) m.bytes n.bytes m.stands.is n.stands.is) m.text n.text in
+    let clash : project_later h.1.0 ≡ None = subst (λ e. project_later e ≡ None) one ok.built in
+    absurd (cc (clash, h.1.2))
 manifest_at t registry p d s ok h = absurd h
 
 manifest_law : Excludes manifest AreTold

@@ -1,4 +1,4 @@
--- Of one start a run answers alike.
+-- Lemmas on points that answer alike.
 use Rattle.std.proofs.Common.{◌≡◌, ◌∷◌, refl, sym, ap, ◌∙◌, subst, inl, inr, Some, None}
 use Rattle.pn_text.specs.Path.{Path}
 use Rattle.pn_cmd.specs.declared.status.Status.{Status}

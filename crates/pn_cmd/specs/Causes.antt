@@ -45,8 +45,7 @@ CauseOf i old new (Limit Text n) = IsUnread i (shown old) (Limit Text n) ⊎ IsU
 CauseOf i old new (Limit PathLength n) =
     IsKept i (shown old) (Limit PathLength n)
     ⊎ (IsUnread i (shown old) (Limit PathLength n)
-    ⊎ (IsUnlisted i (shown old) (Limit PathLength n)
-    ⊎ IsUnplanned i (shown old) (Limit PathLength n)))
+    ⊎ IsUnplanned i (shown old) (Limit PathLength n))
 CauseOf i old new (Limit File n) = IsUnlisted i (shown old) (Limit File n) ⊎ ((n ≡ 268435457) × (old.registry.tree ≡ None))
 CauseOf i old new (Limit Entries n) = IsUnlisted i (shown old) (Limit Entries n)
 CauseOf i old new ProjectFault = Rose old.project.faults new.project.faults

@@ -5,7 +5,7 @@ use Rattle.pn_cmd.specs.declared.status.Status.{Status}
 use Rattle.pn_cmd.specs.World.{Trees, Shown, Inputs}
 use Rattle.pn_cmd.specs.Points.{Point, then, step}
 use Rattle.pn_cmd.specs.Names.{workspace_name, package_name, lock_name, modules_path}
-use Rattle.pn_cmd.specs.Known.{Project, Graph, Contents, Build, project_of}
+use Rattle.pn_cmd.specs.Known.{Project, Graph, Sources, Build, project_of}
 use Rattle.pn_cmd.specs.Words.{words}
 use Rattle.pn_cmd.specs.Standing.{standing}
 use Rattle.pn_cmd.specs.Manifests.{manifest}
@@ -32,11 +32,11 @@ reached_at = step (λ (k : Project). k.own) (λ k met. record { project = k; met
 abbrev pub modules_at : Point Graph Graph
 modules_at = step (λ (k : Graph). modules_path k.project.place) (λ k u. k) standing
 
-abbrev pub listed_at : Point Graph Contents
+abbrev pub listed_at : Point Graph Sources
 listed_at = step (λ (k : Graph). k) (λ k packages. record { graph = k; packages = packages }) listed
 
-abbrev pub planned_at : Point Contents Build
-planned_at = step (λ (k : Contents). k) (λ k plan. record { contents = k; plan = plan }) planned
+abbrev pub planned_at : Point Sources Build
+planned_at = step (λ (k : Sources). k) (λ k plan. record { sources = k; plan = plan }) planned
 
 -- from the packages that are reached on
 abbrev pub tree : Point Graph Build
@@ -67,7 +67,7 @@ to_reached = then to_lock reached_at
 abbrev pub to_modules : Point Inputs Graph
 to_modules = then to_reached modules_at
 
-abbrev pub to_listed : Point Inputs Contents
+abbrev pub to_listed : Point Inputs Sources
 to_listed = then to_modules listed_at
 
 -- this is so of what is known after these points

@@ -59,18 +59,18 @@ Installs registry place own packages old new = MatchOption old (new ≡ None) (�
 
 -- The project is installed.
 pub record Written (i : Inputs) (b : Build) (old new : World) : Type 0 where
-  pub project : Installs old.registry.tree i.place b.contents.graph.project.own b.contents.packages old.project.tree new.project.tree
+  pub project : Installs old.registry.tree i.place b.sources.graph.project.own b.sources.packages old.project.tree new.project.tree
   pub registry : new.registry.tree ≡ old.registry.tree
 
 -- What is there when a run is done: the points are passed, the project is installed, and the output took the report.
 pub record IsDone (i : Inputs) (b : Build) (old new : World) : Type 0 where
   pub passed : install.Finds i (trees_of old) b
   pub written : Written i b old new
-  pub told : new.out.bytes ≡ told_more old.out.bytes (report b.contents.packages)
+  pub told : new.out.bytes ≡ told_more old.out.bytes (report b.sources.packages)
 
 -- How a run ends: with the first refusal, before anything is written; in the writing; at the report; or done.
 pub data Ends (i : Inputs) (old new : World) : Status → Type 0 where
   refused : (s : Status) → Refuses (install.Cause i) old new s → Untouched old new → Ends i old new s
   stopped : (s : Status) (b : Build) → install.Finds i (trees_of old) b → Refuses Stops old new s → HalfWritten i old new → Ends i old new s
-  unreported : (s : Status) (b : Build) → install.Finds i (trees_of old) b → Refuses Unreported old new s → Written i b old new → TookSome (report b.contents.packages) old.out new.out → Ends i old new s
+  unreported : (s : Status) (b : Build) → install.Finds i (trees_of old) b → Refuses Unreported old new s → Written i b old new → TookSome (report b.sources.packages) old.out new.out → Ends i old new s
   done : (b : Build) → IsDone i b old new → Ends i old new Done

@@ -17,13 +17,13 @@ pub record Graph : Type 0 where
   pub met : List Found
 
 -- those with their files, in byte order of ids
-pub record Contents : Type 0 where
+pub record Sources : Type 0 where
   pub graph : Graph
   pub packages : List Package
 
 -- the tree that they make
 pub record Build : Type 0 where
-  pub contents : Contents
+  pub sources : Sources
   pub plan : List Planned
 
 abbrev pub project_of : Path → List Pair → Project
@@ -32,8 +32,8 @@ project_of place own = record { place = place; own = own }
 abbrev pub graph_of : Path → List Pair → List Found → Graph
 graph_of place own met = record { project = project_of place own; met = met }
 
-abbrev pub contents_of : Path → List Pair → List Found → List Package → Contents
-contents_of place own met packages = record { graph = graph_of place own met; packages = packages }
+abbrev pub sources_of : Path → List Pair → List Found → List Package → Sources
+sources_of place own met packages = record { graph = graph_of place own met; packages = packages }
 
 abbrev pub build_of : Path → List Pair → List Found → List Package → List Planned → Build
-build_of place own met packages plan = record { contents = contents_of place own met packages; plan = plan }
+build_of place own met packages plan = record { sources = sources_of place own met packages; plan = plan }

@@ -1,7 +1,7 @@
 -- Laws of a run, which follow from how it ends.
 use Rattle.std.specs.Prelude.{◌≡◌, ◌∷◌, Some}
 use Rattle.serde_json.specs.Data.{Data}
-use Rattle.pn_fs.specs.Tree.{Tree}
+use Rattle.pn_fs.specs.Tree.{Tree, IsTree}
 use Rattle.pn_manifest.specs.Fields.{edges_of}
 use Rattle.pn_cmd.specs.declared.status.Status.{Status}
 use Rattle.pn_cmd.specs.declared.status.Status.TheVariants.{Done, Memory, ProjectFault, RegistryFault, SinkFault}
@@ -55,11 +55,12 @@ pub record Starts (t r : Tree) (w : World) : Type 0 where
   pub project : w.project.tree ≡ Some t
   pub registry : w.registry.tree ≡ Some r
 
--- Two runs of one start that end of themselves end alike, and where they are done they leave one tree.
-pub record Alike (old new other now : World) (s v : Status) : Type 0 where
+-- Two runs end alike: with one answer, with one tree, and where their outputs began alike with the same output.
+pub record EndAlike (old new other now : World) (s v : Status) : Type 0 where
   pub status : s ≡ v
-  pub tree : s ≡ Done → new.project.tree ≡ now.project.tree
-  pub out : s ≡ Done → old.out.bytes ≡ other.out.bytes → new.out.bytes ≡ now.out.bytes
+  pub tree : new.project.tree ≡ now.project.tree
+  pub out : old.out.bytes ≡ other.out.bytes → new.out.bytes ≡ now.out.bytes
 
+-- So do two runs of one start that end neither for want of memory nor for a fault.
 abbrev pub SettledLaw : Type 0
-SettledLaw = (i : Inputs) (t r : Tree) (old new other now : World) (s v : Status) → Starts t r old → Starts t r other → Ends i old new s → Ends i other now v → IsOwn s → IsOwn v → Alike old new other now s v
+SettledLaw = (i : Inputs) (t r : Tree) (old new other now : World) (s v : Status) → IsTree r → Starts t r old → Starts t r other → Ends i old new s → Ends i other now v → IsOwn s → IsOwn v → EndAlike old new other now s v

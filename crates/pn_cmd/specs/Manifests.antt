@@ -42,11 +42,12 @@ IsWrong e (BadField f k) = (bytes : List ℕ) × (d : Data) × IsText e bytes ×
 abbrev pub project_later : Data → Option (List ℕ)
 project_later d = if has_dev d then Some (codes "devDependencies") else first_later d
 
+-- The path is too long, or the file there is refused. A path that is too long isn't asked for.
 abbrev pub NoManifest : Path → Shown → Status → Type 0
 NoManifest p w (Limit PathLength n) = (n ≡ length (path_text p)) × (4096 < n)
-NoManifest p w (Limit Text n) = (text_limit < n) × IfSome w.trees.project (λ t. IsFileOf n (t p))
-NoManifest p w (BadManifest text why) = (text ≡ path_text p) × IfSome w.trees.project (λ t. IsWrong (t p) why)
-NoManifest p w (NotYet key) = IfSome w.trees.project (λ t. (d : Data) × IsManifest (t p) d × (project_later d ≡ Some key))
+NoManifest p w (Limit Text n) = (length (path_text p) ≤ 4096) × (text_limit < n) × IfSome w.trees.project (λ t. IsFileOf n (t p))
+NoManifest p w (BadManifest text why) = (length (path_text p) ≤ 4096) × (text ≡ path_text p) × IfSome w.trees.project (λ t. IsWrong (t p) why)
+NoManifest p w (NotYet key) = (length (path_text p) ≤ 4096) × IfSome w.trees.project (λ t. (d : Data) × IsManifest (t p) d × (project_later d ≡ Some key))
 NoManifest p w ProjectFault = length (path_text p) ≤ 4096
 NoManifest p w s = ⊥
 

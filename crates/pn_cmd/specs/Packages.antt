@@ -5,8 +5,8 @@ use Rattle.pn_layout.specs.declared.packages.Package.{Package}
 use Rattle.pn_collect.specs.CollectFaults.{IsFirstRefused}
 use Rattle.pn_collect.specs.Packages.{ArePackages}
 use Rattle.pn_collect.specs.declared.fault.CollectFault.{CollectFault}
-use Rattle.pn_collect.specs.declared.fault.CollectFault.TheVariants.{Modules, TooLarge, LongPath, Entries as FaultEntries, Fault, Memory as NoMemory}
-use Rattle.pn_cmd.specs.declared.status.Which.TheVariants.{File, Path as PathLength, Entries}
+use Rattle.pn_collect.specs.declared.fault.CollectFault.TheVariants.{Modules, TooLarge, Entries as FaultEntries, Fault, Memory as NoMemory}
+use Rattle.pn_cmd.specs.declared.status.Which.TheVariants.{File, Entries}
 use Rattle.pn_cmd.specs.declared.status.Status.{Status}
 use Rattle.pn_cmd.specs.declared.status.Status.TheVariants.{Memory, Limit, RegistryFault, NotYet}
 use Rattle.pn_cmd.specs.World.{Shown}
@@ -18,7 +18,6 @@ use Rattle.pn_cmd.specs.Known.{Graph}
 abbrev pub collect_status : CollectFault → Status
 collect_status (Modules path) = NotYet (registry_text path)
 collect_status (TooLarge n) = Limit File n
-collect_status (LongPath n) = Limit PathLength n
 collect_status FaultEntries = Limit Entries 4194305
 collect_status Fault = RegistryFault
 collect_status NoMemory = Memory

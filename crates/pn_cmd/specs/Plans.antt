@@ -16,10 +16,10 @@ use Rattle.pn_cmd.specs.declared.status.Status.{Status}
 use Rattle.pn_cmd.specs.declared.status.Status.TheVariants.{Limit}
 use Rattle.pn_cmd.specs.World.{Shown}
 use Rattle.pn_cmd.specs.Points.{Point}
-use Rattle.pn_cmd.specs.Known.{Contents}
+use Rattle.pn_cmd.specs.Known.{Sources}
 
 -- the first path of the build, in byte order, that is too long
-abbrev pub TooLong : Contents → Shown → Status → Type 0
+abbrev pub TooLong : Sources → Shown → Status → Type 0
 TooLong k w (Limit PathLength n) = LayoutRefused (modules_path k.graph.project.place) k.graph.project.own k.packages (FaultLong n)
 TooLong k w s = ⊥
 
@@ -33,9 +33,9 @@ pub record IsPlan (place : Path) (own : List Pair) (packages : List Package) (pl
   pub closed : IsClosed (modules_path place) packages plan
 
 -- It is the packages' build, and no path of it is too long.
-pub record IsPlanned (k : Contents) (plan : List Planned) : Type 0 where
+pub record IsPlanned (k : Sources) (plan : List Planned) : Type 0 where
   pub fits : Fits k.graph.project.place k.graph.project.own k.packages
   pub is : IsPlan k.graph.project.place k.graph.project.own k.packages plan
 
-abbrev pub planned : Point Contents (List Planned)
+abbrev pub planned : Point Sources (List Planned)
 planned = record { Finds = λ k t plan. IsPlanned k plan; Cause = TooLong }

@@ -16,3 +16,9 @@ pub fn lookup_law()
 pub fn order_law()
     ensures { OrderLaw }
 {}
+
+/// Two runs of one start, of told trees, that end neither for want of memory nor for a fault answer one status and leave
+/// one tree.
+pub fn settled_law()
+    ensures { SettledLaw }
+{}

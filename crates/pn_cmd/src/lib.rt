@@ -28,7 +28,7 @@ mod top;
 mod words;
 mod write;
 
-pub use laws::{cause_law, lookup_law, order_law};
+pub use laws::{cause_law, lookup_law, order_law, settled_law};
 pub use status::{ManifestWhy, Status, Which};
 pub use text::tell;
 pub use top::run;

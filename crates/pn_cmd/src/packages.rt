@@ -44,7 +44,6 @@ fn unlisted(alloc: Global, fault: CollectFault) -> Status
     match fault {
         CollectFault::Modules(path) => has_modules(alloc, &path),
         CollectFault::TooLarge(length) => Status::Limit(Which::File, length),
-        CollectFault::LongPath(length) => Status::Limit(Which::Path, length),
         CollectFault::Entries => Status::Limit(Which::Entries, 4194305),
         CollectFault::Fault => Status::RegistryFault,
         CollectFault::Memory => Status::Memory,

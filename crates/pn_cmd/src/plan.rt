@@ -6,7 +6,7 @@ ghost use Rattle.pn_choice.specs.declared.package.Package.{Package as Found};
 ghost use Rattle.pn_cmd.specs.World.{World};
 ghost use Rattle.pn_cmd.specs.Points.{Refuses};
 ghost use Rattle.pn_cmd.specs.Names.{modules_path};
-ghost use Rattle.pn_cmd.specs.Known.{contents_of};
+ghost use Rattle.pn_cmd.specs.Known.{sources_of};
 ghost use Rattle.pn_cmd.specs.Plans.{TooLong, IsPlanned};
 ghost use Rattle.pn_cmd.specs.Reports.{report_of};
 
@@ -28,8 +28,8 @@ pub fn plan(
     requires modules { modules.now ≡ modules_path place.now }
     requires direct { AreSoundDependencies (edges_by manifest.now) }
     requires sound { AreSound packages.now }
-    ensures planned { (met : List Found) → IfOk result (IsPlanned (contents_of place.now (edges_by manifest.now) met packages.now)) }
-    ensures refused { (met : List Found) (w : World) → IfErr result (Refuses (TooLong (contents_of place.now (edges_by manifest.now) met packages.now)) w w) }
+    ensures planned { (met : List Found) → IfOk result (IsPlanned (sources_of place.now (edges_by manifest.now) met packages.now)) }
+    ensures refused { (met : List Found) (w : World) → IfErr result (Refuses (TooLong (sources_of place.now (edges_by manifest.now) met packages.now)) w w) }
 {
     let direct = match manifest.edges(alloc) {
         Ok(direct) => direct,

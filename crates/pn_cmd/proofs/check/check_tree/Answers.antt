@@ -3,7 +3,7 @@ use Rattle.pn_choice.specs.Edges.{edges_by}
 use Rattle.pn_layout.specs.declared.packages.Package.{Package}
 use Rattle.pn_cmd.specs.World.{world}
 use Rattle.pn_cmd.specs.Points.{then, Refuses}
-use Rattle.pn_cmd.specs.Known.{graph_of, contents_of}
+use Rattle.pn_cmd.specs.Known.{graph_of, sources_of}
 use Rattle.pn_cmd.specs.Chain.{modules_at, listed_at, planned_at}
 use Rattle.pn_cmd.specs.Plans.{IsPlanned, TooLong}
 use Rattle.pn_cmd.proofs.PointLemmas.{first_refuses, second_refuses, kept, unchanged}
@@ -37,12 +37,12 @@ returns-in-Ok-plan-clause-ready g c =
     let met = c.args.reached in
     let items = c.in-Ok-packages.packages.items in
     let plan = c.in-Ok-plan.plan in
-    let is = subst (λ (l : List Package). IsPlanned (contents_of place own met l) plan) c.as_slice.ensures.value (c.in-Ok-plan.ensures.planned met) in
+    let is = subst (λ (l : List Package). IsPlanned (sources_of place own met l) plan) c.as_slice.ensures.value (c.in-Ok-plan.ensures.planned met) in
     record {
       value = graph_of place own met;
       first = record { value = tt; found = c.in-Ok.ensures.passed; is = refl };
       rest = record {
-        value = contents_of place own met items;
+        value = sources_of place own met items;
         first = record { value = items; found = c.in-Ok-packages.ensures.packages; is = refl };
         rest = record { value = plan; found = is; is = refl };
       };
@@ -64,7 +64,7 @@ returns-clause-refused g c out =
     second_refuses modules_at (then listed_at planned_at) k k old mid new s
     (kept (p c.args.project.now) (p c.nothing_stands.new.project) (r c.args.registry.now) (r c.args.registry.now) out c.in-Ok.ensures.kept (unchanged (r c.args.registry.now)))
     (record { value = tt; found = c.in-Ok.ensures.passed; is = refl })
-    (second_refuses listed_at planned_at k (contents_of place own met items) mid new new s
+    (second_refuses listed_at planned_at k (sources_of place own met items) mid new new s
     (kept (p c.nothing_stands.new.project) (p c.nothing_stands.new.project) (r c.args.registry.now) (r c.packages.new.registry) out (unchanged (p c.nothing_stands.new.project)) c.in-Ok-packages.ensures.kept)
     (record { value = items; found = c.in-Ok-packages.ensures.packages; is = refl })
-    (subst (λ (l : List Package). Refuses (TooLong (contents_of place own met l)) new new s) c.as_slice.ensures.value (c.in-Err-plan.ensures.refused met new)))
+    (subst (λ (l : List Package). Refuses (TooLong (sources_of place own met l)) new new s) c.as_slice.ensures.value (c.in-Err-plan.ensures.refused met new)))

@@ -12,7 +12,7 @@ returns-clause-found g c =
 pub returns-clause-refused : goal.returns-clause-refused
 returns-clause-refused g c registry out =
     let seen = g.P.ReadFs.seen in
-    refused_err c.parse.result (world (seen c.args.project.now) registry out) (world (seen c.read_text.new.project) registry out) c.in-Ok.path _ c.in-Ok-read_text.bytes.items _ c.in-Ok-read_text.ensures.found c.as_slice.ensures.value c.in-Ok.ensures.ok c.parse.ensures.refused
+    refused_err c.parse.result (world (seen c.args.project.now) registry out) (world (seen c.read_text.new.project) registry out) c.in-Ok.path _ c.in-Ok-read_text.bytes.items _ c.in-Ok.ensures.fits c.in-Ok-read_text.ensures.found c.as_slice.ensures.value c.in-Ok.ensures.ok c.parse.ensures.refused
 
 pub returns-in-Err-clause-refused : goal.returns-in-Err-clause-refused
 returns-in-Err-clause-refused g c registry out =
