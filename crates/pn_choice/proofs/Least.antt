@@ -11,14 +11,15 @@ use Rattle.pn_manifest.specs.Pairs.{Pair}
 use Rattle.pn_manifest.specs.Fields.{edges_of}
 use Rattle.pn_registry.specs.Places.{manifest_path}
 use Rattle.pn_registry.specs.Package.{IsText}
-use Rattle.pn_choice.specs.Edges.{id_of, id_text, target, targets, edge_of, edges_from, package_edges, edges_in, all_edges}
+use Rattle.pn_registry.proofs.ManifestLawLemmas.{text_once}
+use Rattle.pn_choice.specs.Edges.{id_of, target, targets, edge_of, edges_from, package_edges, edges_in, all_edges}
 use Rattle.pn_choice.specs.Firsts.{same_id, without, firsts, IsDistinct}
 use Rattle.pn_choice.specs.Found.{IsPackage}
 use Rattle.pn_choice.specs.Walked.{Walked}
 use Rattle.pn_choice.specs.Reaches.{Reaches, direct, through, pair_id, ReachLaw}
 use Rattle.pn_choice.specs.declared.package.Package.{Package}
 use Rattle.pn_choice.proofs.Once.{same_id-is, same_id-refl}
-use Rattle.pn_choice.proofs.Sequences.{IsMet, met_reached, next_id, text_once}
+use Rattle.pn_choice.proofs.Sequences.{IsMet, met_reached, next_id}
 
 -- each first is one of the list
 firsts_from : (xs : List Id) → All (Contains xs) (firsts xs)
@@ -78,7 +79,7 @@ edges_reach t own (q ∷ ps) found reached =
     let here = All-head (IsPackage (Some t)) q ps found in
     let at = All-head (λ (q : Package). Reaches t own q.id) q ps reached in
     All-append (λ e. Reaches t own (target e)) (package_edges q) (edges_in ps)
-    (All-map (λ e. Reaches t own (target e)) (edge_of (id_text q.id)) q.dependencies
+    (All-map (λ e. Reaches t own (target e)) (edge_of q.id) q.dependencies
     (All-weaker (Contains q.dependencies) (λ p. Reaches t own (pair_id p)) (λ p c. through q.id here.value p at here.manifest.text (subst (λ (l : List Pair). Contains l p) here.edges c)) q.dependencies (All-contains_itself q.dependencies)))
     (edges_reach t own ps (All-tail (IsPackage (Some t)) q ps found) (All-tail (λ (q : Package). Reaches t own q.id) q ps reached))
 
@@ -130,7 +131,7 @@ unfolding Closed
 closed t ids [] found led = All-nil (λ (q : Package). Closed t ids q.id)
 closed t ids (q ∷ ps) found led =
     let here = All-head (IsPackage (Some t)) q ps found in
-    let own = All-unmap (λ e. Contains ids (target e)) (edge_of (id_text q.id)) q.dependencies (All-left (λ e. Contains ids (target e)) (package_edges q) (edges_in ps) led) in
+    let own = All-unmap (λ e. Contains ids (target e)) (edge_of q.id) q.dependencies (All-left (λ e. Contains ids (target e)) (package_edges q) (edges_in ps) led) in
     All-cons (λ (q : Package). Closed t ids q.id) q ps
     (λ v e text c.
     let same : q.dependencies ≡ edges_of v = here.edges ∙ ap edges_of (text_once (t (manifest_path q.id)) here.value v here.manifest.text text) in

@@ -1,6 +1,8 @@
 -- Causes at one state of the registry, and at an earlier one.
 use Rattle.std.proofs.Common.{◌≤◌, ℕ, List, Option, Some, None, Result, Ok, Err, IfErr, IfOk, OnOk, IfSome, length, refl, sym, ap, ◌∙◌, subst, arith}
 use Rattle.serde_json.specs.Data.{Data}
+use Rattle.pn_text.specs.Ids.{id_version}
+use Rattle.pn_text.specs.declared.limits.TheConstants.{ID_LIMIT}
 use Rattle.pn_fs.specs.Tree.{Tree}
 use Rattle.pn_fs.specs.Seen.{Seen, Keeps}
 use Rattle.pn_manifest.specs.Exact.{Id, is_exact}
@@ -10,7 +12,7 @@ use Rattle.pn_manifest.specs.Says.{Says}
 use Rattle.pn_manifest.specs.declared.manifest.Manifest.{Manifest}
 use Rattle.pn_registry.specs.Places.{manifest_path}
 use Rattle.pn_registry.specs.Package.{IsRead, IsFound}
-use Rattle.pn_choice.specs.Edges.{id_text, edge_to}
+use Rattle.pn_choice.specs.Edges.{edge_to}
 use Rattle.pn_choice.specs.Found.{HasFolder, HasManifest, IsPackage, NoPackage, NotBuilt, IsBuilt, IsUnbuilt}
 use Rattle.pn_choice.specs.Refusals.{Refuses}
 use Rattle.pn_choice.specs.declared.package.Package.{Package}
@@ -63,11 +65,11 @@ package_of r id m p s b = record {
   manifest = subst (λ (i : Id). HasManifest r i s.value) (sym b.here) s.manifest;
   built = sym s.says.later ∙ b.built;
   edges = b.same ∙ ap (λ n. but_own n m.dependencies) s.says.name ∙ ap (but_own (name_of s.value)) s.says.dependencies;
-  exact = ap (λ (i : Id). is_exact i.version) b.here ∙ b.exact;
-  short = subst (λ (i : Id). length (id_text i) ≤ 120) (sym b.here) b.short;
+  exact = ap (λ (i : Id). is_exact (id_version i)) b.here ∙ b.exact;
+  short = subst (λ (i : Id). length i ≤ ID_LIMIT) (sym b.here) b.short;
 }
 
-pub unbuilt_of : (old new : Seen) (id : Id) (m : Manifest) (from : List ℕ) (fault : ReachFault) → IsSaid old.tree id m → IsUnbuilt m.later id fault → Refuses (λ r. NoPackage r (edge_to from id)) old new fault
+pub unbuilt_of : (old new : Seen) (id : Id) (m : Manifest) (from : List ℕ) (fault : ReachFault) → IsSaid old.tree id m → IsUnbuilt m.later id fault → Refuses (λ r. NoPackage r (edge_to from id) id) old new fault
 unbuilt_of old new id m from (NotYet text) s h = (s.value, s.manifest, subst (λ (o : Option (List ℕ)). NotBuilt o id text) s.says.later h)
 unbuilt_of old new id m from (NoVersion at) s h = absurd h
 unbuilt_of old new id m from (TextLimit n) s h = absurd h

@@ -2,11 +2,10 @@
 use Rattle.std.proofs.Common.{◌≡◌, ◌≤◌, ◌<◌, ◌+◌, ◌-◌, ℕ, true, false, List, [], ◌∷◌, ◌++◌, length, refl, sym, ap, subst, ◌∙◌, inl, inr, arith, append_assoc, append-nil, length-append}
 use Rattle.std.specs.Prelude.{◌==◌, ◌&&◌, ◌||◌, not, nat_le, if◌then◌else◌}
 use Rattle.std.specs.List.{list_all}
-use Rattle.std.proofs.lemmas.Bool.{eqb-true, le-leb, lt-leb}
+use Rattle.std.proofs.lemmas.Bool.{and_parts, eqb-true, le-leb, lt-leb, or_cases}
 use Rattle.std.proofs.lemmas.Bool.Decides.{nat_tests}
 use Rattle.pn_glob.specs.Bytes.{is_bracket}
 use Rattle.pn_glob.specs.Grammar.{Chosen, HasBadByte, HasMany, IsOpen, IsStopped, Spells, each_with, ends_choice, is_inner, is_plain, one, more, empty, plain, brace, outside, inside}
-use Rattle.pn_glob.proofs.Gaps.{and_left, and_right, or_cases}
 
 -- Where a reading stands: outside of braces behind these texts; in a brace behind the texts before it, with those of its
 -- choices that ended and those of the last one; behind a byte that can't stand there, which was so many bytes ago; or
@@ -51,15 +50,15 @@ each-more (c ∷ cs) b x =
 plain-turned : (x : List ℕ) (cs : List (List ℕ)) → list_all is_plain x ≡ true → turned (out cs) x ≡ out (each_with cs x)
 plain-turned [] cs h = ap out (sym (each-empty cs))
 plain-turned (b ∷ x) cs h =
-    ap (λ v. turned (if v then out (each_with cs (b ∷ [])) else (if b == 123 then within cs [] cs else stopped 1)) x) (and_left (is_plain b) _ h)
-    ∙ plain-turned x (each_with cs (b ∷ [])) (and_right (is_plain b) _ h)
+    ap (λ v. turned (if v then out (each_with cs (b ∷ [])) else (if b == 123 then within cs [] cs else stopped 1)) x) (and_parts (is_plain b) _ h).0
+    ∙ plain-turned x (each_with cs (b ∷ [])) (and_parts (is_plain b) _ h).1
     ∙ ap out (each-more cs b x)
 
 inner-turned : (x : List ℕ) (cs ds es : List (List ℕ)) → list_all is_inner x ≡ true → turned (within cs ds es) x ≡ within cs ds (each_with es x)
 inner-turned [] cs ds es h = ap (λ z. within cs ds z) (sym (each-empty es))
 inner-turned (b ∷ x) cs ds es h =
-    ap (λ v. turned (if v then within cs ds (each_with es (b ∷ [])) else (if (b == 44) || (b == 125) then chosen_turn cs (ds ++ es) b else stopped 1)) x) (and_left (is_inner b) _ h)
-    ∙ inner-turned x cs ds (each_with es (b ∷ [])) (and_right (is_inner b) _ h)
+    ap (λ v. turned (if v then within cs ds (each_with es (b ∷ [])) else (if (b == 44) || (b == 125) then chosen_turn cs (ds ++ es) b else stopped 1)) x) (and_parts (is_inner b) _ h).0
+    ∙ inner-turned x cs ds (each_with es (b ∷ [])) (and_parts (is_inner b) _ h).1
     ∙ ap (λ z. within cs ds z) (each-more es b x)
 
 -- where a reading stands in a brace

@@ -64,14 +64,3 @@ walk_nowhere links t p steps q left leg ended is = let w = some_again links t in
 
 pub walk_onward : (links : ℕ) (t : Tree) (p : Path) (steps : List Step) (q : Path) (left : List Step) (leg : Leg) → EndsAt t p steps q left leg → leg ≡ Onward → 0 < links → walk links t p steps ≡ walk (links - 1) t q left
 walk_onward links t p steps q left leg ended is some = ap (λ f. f p steps) (one_less links t some) ∙ ended (walk (links - 1) t) ∙ ap (ends (walk (links - 1) t) q left) is
-
-pub keeps_on : {old mid new : Seen} → Keeps old mid → Keeps mid new → Keeps old new
-keeps_on a b = record { tree = b.tree ∙ a.tree; touched = b.touched ∙ a.touched; later = omega (arith, a.later, b.later) }
-
-pub for_some : {T : Type 0} (P : T → Type 0) (o : Option T) → IfSome o P → ForSome o P
-for_some P None h t e = cc
-for_some P (Some u) h t e = let one : u ≡ t = cc in subst P one h
-
-pub if_some : {T : Type 0} (P : T → Type 0) (o : Option T) → ForSome o P → IfSome o P
-if_some P None h = tt
-if_some P (Some u) h = h u refl

@@ -14,3 +14,4 @@ pub mod Keeping
 pub mod Distinct
 pub mod FilesLawLemmas
 pub mod ShortFiles
+pub mod ManifestLawLemmas

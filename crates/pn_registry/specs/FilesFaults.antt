@@ -3,6 +3,7 @@ use Rattle.std.specs.Prelude.{◌≡◌, ◌≢◌, ◌<◌, ℕ, ◌++◌, nat_
 use Rattle.std.specs.declared.cmp.Ordering.TheVariants.{Less}
 use Rattle.std.specs.Cmp.Lexicographic.{slice_cmp}
 use Rattle.std.specs.Ordering.{nat_cmp}
+use Rattle.pn_text.specs.declared.limits.TheConstants.{ENTRY_LIMIT}
 use Rattle.pn_text.specs.Path.{Path, text_below}
 use Rattle.pn_text.specs.Name.{holds_modules}
 use Rattle.pn_text.specs.Causes.{Rose}
@@ -15,7 +16,7 @@ use Rattle.pn_registry.specs.declared.contents.FilesFault.{FilesFault}
 use Rattle.pn_registry.specs.declared.contents.FilesFault.TheVariants.{Modules, TooLarge, Entries, Fault, Memory}
 
 abbrev pub entry_limit : ℕ
-entry_limit = 4194304
+entry_limit = ENTRY_LIMIT
 
 abbrev pub is_modular : File → Bool
 is_modular f = holds_modules f.0

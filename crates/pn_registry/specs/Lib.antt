@@ -8,3 +8,4 @@ pub mod Turns
 pub mod FilesFaults
 pub mod Apart
 pub mod FilesLaws
+pub mod ManifestLaws

@@ -1,5 +1,21 @@
 // What a told registry settles.
 ghost use Rattle.pn_registry.specs.FilesLaws.{FilesCauseLaw, FilesPassedLaw, FilesSameLaw};
+ghost use Rattle.pn_registry.specs.ManifestLaws.{ManifestCauseLaw, ManifestPassedLaw, ManifestSameLaw};
+
+/// A package has no manifest for one cause, which the tree settles.
+pub fn manifest_cause_law()
+    ensures { ManifestCauseLaw }
+{}
+
+/// Where a package has a manifest, there is no cause to refuse it.
+pub fn manifest_passed_law()
+    ensures { ManifestPassedLaw }
+{}
+
+/// What a package's manifest says is settled by the tree.
+pub fn manifest_same_law()
+    ensures { ManifestSameLaw }
+{}
 
 /// The files of a package are refused for one cause, which the tree settles.
 pub fn files_cause_law()

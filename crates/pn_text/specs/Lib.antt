@@ -4,3 +4,6 @@ pub mod Name
 pub mod NameFaults
 pub mod Causes
 pub mod Relative
+pub mod Ids
+pub mod First
+pub mod Pieces

@@ -1,6 +1,8 @@
 // The parts of a text between slashes.
 ghost use Rattle.std.specs.Prelude.{◌≡◌, ◌≤◌, ◌++◌, IfSome, IsTrue, MatchOption, length};
-ghost use Rattle.pn_text.specs.Path.{Path, is_flat, is_filled, IsPartsEnd, SpellsParts, HasBadPart};
+ghost use Rattle.std.specs.Str.{bytes_eq};
+ghost use Rattle.pn_text.specs.Name.{modules, holds_modules};
+ghost use Rattle.pn_text.specs.Path.{Path, tail_of, is_flat, is_filled, IsPartsEnd, SpellsParts, HasBadPart};
 
 // Whether a text without a slash is a part.
 fn is_good(part: &[u8]) -> bool
@@ -45,4 +47,27 @@ pub fn bad_part(text: &[u8]) -> Option<usize>
         }
         start += part.len() + 1;
     }
+}
+
+// Whether a part between slashes is `node_modules`.
+pub fn holds_modules(parts: &[u8]) -> bool
+    ensures { result ≡ holds_modules (tail_of parts.now) }
+{
+    let mut rest = parts;
+    'parts: loop {
+        let (part, after) = first_part(rest);
+        if is_modules(part) {
+            return true;
+        }
+        match after {
+            [_, more @ ..] => rest = more,
+            [] => return false,
+        }
+    }
+}
+
+fn is_modules(part: &[u8]) -> bool
+    ensures { result ≡ bytes_eq part.now modules }
+{
+    part == b"node_modules".as_slice()
 }

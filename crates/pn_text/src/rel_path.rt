@@ -1,10 +1,13 @@
 // Relative paths.
 ghost use Rattle.std.specs.Prelude.{◌≡◌, ◌≤◌, IfOk, IfErr, OnOk, length};
 ghost use Rattle.pn_text.specs.Path.{Path, SpellsParts};
+ghost use Rattle.pn_text.specs.declared.limits.TheConstants.{PATH_LIMIT};
+ghost use Rattle.pn_text.specs.Name.{holds_modules};
 ghost use Rattle.pn_text.specs.Faults.{RelFault};
 
 use crate::fault::{Memory, PathFault};
-use crate::parts::bad_part;
+use crate::limits::PATH_LIMIT;
+use crate::parts::{bad_part, holds_modules};
 use std::alloc::Global;
 use std::marker::Model;
 
@@ -42,7 +45,7 @@ impl RelPath {
     /// The path that a text without a fault spells.
     pub(crate) fn of_parts(alloc: Global, text: &str) -> Result<RelPath, Memory>
         requires good { (p : Path) × SpellsParts text.now p }
-        requires short { length text.now ≤ 4096 }
+        requires short { length text.now ≤ PATH_LIMIT }
         ensures { IfOk result (λ p. SpellsParts text.now p) }
     {
         match String::from_str(alloc, text) {
@@ -54,9 +57,16 @@ impl RelPath {
     /// The text: no slash at either end.
     pub fn as_str(&self) -> &str
         ensures text { SpellsParts result.now self.now }
-        ensures short { length result.now ≤ 4096 }
+        ensures short { length result.now ≤ PATH_LIMIT }
     {
         self.text.as_str()
+    }
+
+    /// Whether a part of it is `node_modules`.
+    pub fn has_modules(&self) -> bool
+        ensures { result ≡ holds_modules self.now }
+    {
+        holds_modules(self.as_str().as_bytes())
     }
 
     /// An equal path.
@@ -72,13 +82,13 @@ impl RelPath {
 
 // What is wrong with a text as a relative path, memory aside.
 fn check_rel(text: &[u8]) -> Result<(), PathFault>
-    ensures ok { OnOk result ((p : Path) × SpellsParts text.now p × (length text.now ≤ 4096)) }
+    ensures ok { OnOk result ((p : Path) × SpellsParts text.now p × (length text.now ≤ PATH_LIMIT)) }
     ensures fault { IfErr result (λ e. RelFault text.now e) }
 {
     if let Some(at) = bad_part(text) {
         return Err(PathFault::BadPart(at));
     }
-    if text.len() > 4096 {
+    if text.len() > PATH_LIMIT {
         return Err(PathFault::Long);
     }
     Ok(())

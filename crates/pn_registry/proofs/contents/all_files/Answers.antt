@@ -9,11 +9,11 @@ use Rattle.pn_registry.proofs.contents.all_files.Goals as goal
 
 pub returns-in-Ok-in_order_apart-clause-files : goal.returns-in-Ok-in_order_apart-clause-files
 returns-in-Ok-in_order_apart-clause-files g c =
-    let tree = (g.R.ReadFs.seen c.args.reg.now).tree in
+    let tree = (g.R.ReadFs.seen c.args.registry.now).tree in
     let listed = c.in-Ok-in_order_apart.ensures in
     let at = c.args.at.now in
     if_some (λ t. IsFilesOf t at c.in-Ok-in_order_apart.files) tree (λ t told.
-    let is_tree = g.met.R.ReadFs.well_formed c.args.reg.now t told in
+    let is_tree = g.met.R.ReadFs.well_formed c.args.registry.now t told in
     kept_apart t is_tree at listed.0 c.in-Ok-in_order_apart.files
     (kept_files t is_tree at (map file_of c.in-Ok.found.items) listed.0 (for_some (λ t. IsFilesOf t at (map file_of c.in-Ok.found.items)) tree c.in-Ok.ensures.files t told) listed.1)
     listed.2)

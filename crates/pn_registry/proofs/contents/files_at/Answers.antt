@@ -9,7 +9,7 @@ returns-in-Ok-refuse-clause-clean g c = all_clean c.in-Ok.files (subst IsPassed 
 
 pub returns-in-Err-refuse-clause-fault : goal.returns-in-Err-refuse-clause-fault
 returns-in-Err-refuse-clause-fault g c =
-    named_refused c.args.at.now (g.R.ReadFs.seen c.args.reg.now) (g.R.ReadFs.seen c.all_files.new.reg) c.in-Ok.files c.in-Err-refuse.fault c.in-Ok.ensures.files c.in-Ok.ensures.few c.as_slice.ensures.rising
+    named_refused c.args.at.now (g.R.ReadFs.seen c.args.registry.now) (g.R.ReadFs.seen c.all_files.new.registry) c.in-Ok.files c.in-Err-refuse.fault c.in-Ok.ensures.files c.in-Ok.ensures.few c.as_slice.ensures.rising
     (subst (λ fs. IsNamed fs c.in-Err-refuse.fault) c.as_slice.ensures.files c.in-Err-refuse.ensures.named)
 
 pub returns-in-Err-refuse-clause-named : goal.returns-in-Err-refuse-clause-named

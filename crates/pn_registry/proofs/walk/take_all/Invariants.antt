@@ -9,9 +9,9 @@ use Rattle.pn_registry.proofs.walk.take_all.Given as goal
 
 abbrev pub invariant-loop-name : goal.invariant-loop-name
 invariant-loop-name g l = record {
-  kept : Keeps (g.R.ReadFs.seen l.fn.reg) (g.R.ReadFs.seen l.reg);
+  kept : Keeps (g.R.ReadFs.seen l.fn.registry) (g.R.ReadFs.seen l.registry);
   all_within : AllWithin l.at l.todo.items;
   short : All (IsShortFile l.at) l.found.items;
   grows : vec_len l.todo ≤ vec_len l.fn.todo + l.name-index;
-  leads : ForSome (g.R.ReadFs.seen l.fn.reg).tree (λ t. Leads t l.parent (drop l.name-index l.names) l.names l.fn.todo.items l.todo.items (map (placed l.at) l.fn.found.items) (map (placed l.at) l.found.items));
+  leads : ForSome (g.R.ReadFs.seen l.fn.registry).tree (λ t. Leads t l.parent (drop l.name-index l.names) l.names l.fn.todo.items l.todo.items (map (placed l.at) l.fn.found.items) (map (placed l.at) l.found.items));
 }

@@ -44,7 +44,7 @@ folders-preserved g c =
       all_within = c.in-Ok.ensures.all_within;
       short = c.in-Ok.ensures.short;
       walks = λ t told.
-          turned t (g.met.R.ReadFs.well_formed c.args.reg.now t told) c.args.at.now c.in-Some.folder c.folders.todo.items c.pop.new.self.items c.list_folder.new.todo.items
+          turned t (g.met.R.ReadFs.well_formed c.args.registry.now t told) c.args.at.now c.in-Some.folder c.folders.todo.items c.pop.new.self.items c.list_folder.new.todo.items
           (map (placed c.args.at.now) c.folders.found.items) (map (placed c.args.at.now) c.list_folder.new.found.items) c.folders.listed c.in-Ok.count _
           (inv.walks t told) c.in-Some.ensures.items
           (for_some (λ t. Lists t c.in-Some.folder c.in-Ok.count c.pop.new.self.items c.list_folder.new.todo.items (map (placed c.args.at.now) c.folders.found.items) (map (placed c.args.at.now) c.list_folder.new.found.items)) _ c.in-Ok.ensures.lists t (inv.kept.tree ∙ told)) refl;
@@ -53,17 +53,17 @@ folders-preserved g c =
 pub returns-in-Err-clause-fault : goal.returns-in-Err-clause-fault
 returns-in-Err-clause-fault g c =
     let inv = c.folders.invariant in
-    walk_refused (g.R.ReadFs.seen c.args.reg.now) (g.R.ReadFs.seen c.folders.reg) (g.R.ReadFs.seen c.list_folder.new.reg) c.args.at.now c.in-Some.folder c.folders.todo.items c.pop.new.self.items
+    walk_refused (g.R.ReadFs.seen c.args.registry.now) (g.R.ReadFs.seen c.folders.registry) (g.R.ReadFs.seen c.list_folder.new.registry) c.args.at.now c.in-Some.folder c.folders.todo.items c.pop.new.self.items
     (map (placed c.args.at.now) c.folders.found.items) c.folders.listed c.args.limit _ c.in-Err.fault
-    (g.met.R.ReadFs.well_formed c.args.reg.now) inv.kept inv.walks c.in-Some.ensures.items inv.within refl c.in-Err.ensures.fault
+    (g.met.R.ReadFs.well_formed c.args.registry.now) inv.kept inv.walks c.in-Some.ensures.items inv.within refl c.in-Err.ensures.fault
 
 pub returns-clause-files : goal.returns-clause-files
 returns-clause-files g c =
     let inv = c.folders.invariant in
     let none : c.folders.todo.items ≡ [] =
     c.in_default.ensures.items ∙ ap (λ ps. ps ++ []) (c.in_default.ensures.rest ∙ ap (λ n. take (n - 1) c.folders.todo.items) c.in_default.ensures.cases.0) in
-    if_some (λ t. IsFilesOf t c.args.at.now (map file_of c.folders.found.items)) (g.R.ReadFs.seen c.args.reg.now).tree (λ t told.
-    files_found t (g.met.R.ReadFs.well_formed c.args.reg.now t told) c.args.at.now (c.requires.folder t told) c.folders.found.items c.folders.listed
+    if_some (λ t. IsFilesOf t c.args.at.now (map file_of c.folders.found.items)) (g.R.ReadFs.seen c.args.registry.now).tree (λ t told.
+    files_found t (g.met.R.ReadFs.well_formed c.args.registry.now t told) c.args.at.now (c.requires.folder t told) c.folders.found.items c.folders.listed
     (subst (λ d. Walks t c.args.at.now d (map (placed c.args.at.now) c.folders.found.items) c.folders.listed) none (inv.walks t told)))
 
 pub returns-clause-few : goal.returns-clause-few
@@ -71,6 +71,6 @@ returns-clause-few g c =
     let inv = c.folders.invariant in
     let none : c.folders.todo.items ≡ [] =
     c.in_default.ensures.items ∙ ap (λ ps. ps ++ []) (c.in_default.ensures.rest ∙ ap (λ n. take (n - 1) c.folders.todo.items) c.in_default.ensures.cases.0) in
-    if_some (λ t. HasFew t c.args.at.now c.args.limit) (g.R.ReadFs.seen c.args.reg.now).tree (λ t told.
-    few_seen t (g.met.R.ReadFs.well_formed c.args.reg.now t told) c.args.at.now (c.requires.folder t told) (map (placed c.args.at.now) c.folders.found.items) c.folders.listed
+    if_some (λ t. HasFew t c.args.at.now c.args.limit) (g.R.ReadFs.seen c.args.registry.now).tree (λ t told.
+    few_seen t (g.met.R.ReadFs.well_formed c.args.registry.now t told) c.args.at.now (c.requires.folder t told) (map (placed c.args.at.now) c.folders.found.items) c.folders.listed
     (subst (λ d. Walks t c.args.at.now d (map (placed c.args.at.now) c.folders.found.items) c.folders.listed) none (inv.walks t told)) c.args.limit inv.within)

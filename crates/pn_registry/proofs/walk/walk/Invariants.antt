@@ -9,11 +9,11 @@ use Rattle.pn_registry.proofs.walk.walk.Given as goal
 
 abbrev pub invariant-folders : goal.invariant-folders
 invariant-folders g l = record {
-  kept : Keeps (g.R.ReadFs.seen l.fn.reg) (g.R.ReadFs.seen l.reg);
+  kept : Keeps (g.R.ReadFs.seen l.fn.registry) (g.R.ReadFs.seen l.registry);
   within : l.listed ≤ l.limit;
   all_within : AllWithin l.at l.todo.items;
   short : All (IsShortFile l.at) l.found.items;
-  walks : ForSome (g.R.ReadFs.seen l.fn.reg).tree (λ t. Walks t l.at l.todo.items (map (placed l.at) l.found.items) l.listed);
+  walks : ForSome (g.R.ReadFs.seen l.fn.registry).tree (λ t. Walks t l.at l.todo.items (map (placed l.at) l.found.items) l.listed);
 }
 
 abbrev pub decreases-folders : goal.decreases-folders
