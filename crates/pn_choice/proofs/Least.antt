@@ -5,6 +5,7 @@ use Rattle.std.proofs.lemmas.List.{take_all}
 use Rattle.std.proofs.lemmas.List.Elements.{All-nil, All-cons, All-head, All-tail, All-append, All-weaker, All-map, All-contains, All-contains_itself, All-filter, All-get_or, All-more, All-take, filter_passes, Contains-append_right}
 use Rattle.serde_json.specs.Data.{Data}
 use Rattle.pn_text.specs.declared.ids.Edge.{Edge}
+use Rattle.pn_text.proofs.Members.{All-left, All-right, All-unmap}
 use Rattle.pn_fs.specs.Tree.{Tree}
 use Rattle.pn_manifest.specs.Exact.{Id}
 use Rattle.pn_manifest.specs.Pairs.{Pair}
@@ -109,18 +110,6 @@ up_to t own met d h (suc n) le =
 pub sound : (t : Tree) (own : List Pair) (met : List Package) → IsMet t own met → All (λ (q : Package). Reaches t own q.id) met
 sound t own [] h = All-nil (λ (q : Package). Reaches t own q.id)
 sound t own (p ∷ ps) h = subst (All (λ (q : Package). Reaches t own q.id)) (take_all (length (p ∷ ps)) (p ∷ ps) (omega arith)) (up_to t own (p ∷ ps) p h (length (p ∷ ps)) (omega arith))
-
-All-unmap : {X Y : Type 0} (P : X → Type 0) (f : Y → X) (ys : List Y) → All P (map f ys) → All (λ y. P (f y)) ys
-All-unmap P f [] h = All-nil (λ y. P (f y))
-All-unmap P f (y ∷ ys) h = All-cons (λ y. P (f y)) y ys (All-head P (f y) (map f ys) h) (All-unmap P f ys (All-tail P (f y) (map f ys) h))
-
-All-left : {X : Type 0} (P : X → Type 0) (xs ys : List X) → All P (xs ++ ys) → All P xs
-All-left P [] ys h = All-nil P
-All-left P (x ∷ xs) ys h = All-cons P x xs (All-head P x (xs ++ ys) h) (All-left P xs ys (All-tail P x (xs ++ ys) h))
-
-pub All-right : {X : Type 0} (P : X → Type 0) (xs ys : List X) → All P (xs ++ ys) → All P ys
-All-right P [] ys h = h
-All-right P (x ∷ xs) ys h = All-right P xs ys (All-tail P x (xs ++ ys) h)
 
 -- The dependencies of the package are among the ids.
 Closed : Tree → List Id → Id → Type 0

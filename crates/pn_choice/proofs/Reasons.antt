@@ -5,6 +5,7 @@ use Rattle.std.proofs.lemmas.List.Elements.{All-map, All-weaker}
 use Rattle.serde_json.specs.Data.{Data}
 use Rattle.pn_text.specs.declared.ids.Edge.{Edge}
 use Rattle.pn_text.specs.declared.limits.TheConstants.{ID_LIMIT}
+use Rattle.pn_text.proofs.Bools.{true_false}
 use Rattle.pn_fs.specs.Tree.{Tree}
 use Rattle.pn_manifest.specs.Exact.{Id, is_exact}
 use Rattle.pn_manifest.specs.Fields.{first_later}
@@ -18,13 +19,7 @@ use Rattle.pn_choice.specs.Walked.{package_limit}
 use Rattle.pn_choice.specs.declared.package.Package.{Package}
 use Rattle.pn_choice.specs.declared.fault.ReachFault.{ReachFault}
 use Rattle.pn_choice.specs.declared.fault.ReachFault.TheVariants.{NotYet, NoVersion, TextLimit, Manifest, Packages, Fault, Memory}
-use Rattle.pn_registry.proofs.ManifestLawLemmas.{text_once, not_long, not_wrong, one_wrong, long_there, one_length}
-
-none_some : {A : Type 0} (o : Option A) (x : A) → o ≡ None → o ≡ Some x → ⊥
-none_some o x a b = cc
-
-true_false : (b : Bool) → b ≡ true → b ≡ false → ⊥
-true_false b x y = cc
+use Rattle.pn_registry.proofs.ManifestLawLemmas.{none_some, text_once, not_long, not_wrong, one_wrong, long_there, one_length}
 
 -- a right manifest is there
 right_there : (t : Tree) (i : Id) (d : Data) (why : ManifestWhy) → HasManifest (Some t) i d → IsNoManifest (Some t) i why → ⊥

@@ -37,18 +37,6 @@ refuses_by C D old new (Packages n) f h = f h
 refuses_by C D old new Fault f h = h
 refuses_by C D old new Memory f h = tt
 
-pub if_err : {T E : Type 0} (P Q : E → Type 0) (r : Result T E) → ((e : E) → P e → Q e) → IfErr r P → IfErr r Q
-if_err P Q (Ok v) f h = tt
-if_err P Q (Err e) f h = f e h
-
-pub if_ok : {T E : Type 0} (P Q : T → Type 0) (r : Result T E) → ((v : T) → P v → Q v) → IfOk r P → IfOk r Q
-if_ok P Q (Ok v) f h = f v h
-if_ok P Q (Err e) f h = tt
-
-pub on_ok : {T E : Type 0} (P Q : Type 0) (r : Result T E) → (P → Q) → OnOk r P → OnOk r Q
-on_ok P Q (Ok v) f h = f h
-on_ok P Q (Err e) f h = tt
-
 -- What a manifest's read says of its value.
 pub record IsSaid (r : Option Tree) (id : Id) (m : Manifest) : Type 0 where
   pub value : Data
@@ -77,9 +65,3 @@ unbuilt_of old new id m from (wrong_manifest i why) s h = absurd h
 unbuilt_of old new id m from (Packages n) s h = absurd h
 unbuilt_of old new id m from Fault s h = absurd h
 unbuilt_of old new id m from Memory s h = tt
-
-pub keeps_on : (a b c : Seen) → Keeps a b → Keeps b c → Keeps a c
-keeps_on a b c h k = record { tree = k.tree ∙ h.tree; touched = k.touched ∙ h.touched; later = omega (arith, h.later, k.later) }
-
-pub keeps_same : (a : Seen) → Keeps a a
-keeps_same a = record { tree = refl; touched = refl; later = omega arith }

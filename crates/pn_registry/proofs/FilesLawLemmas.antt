@@ -20,9 +20,12 @@ use Rattle.pn_registry.specs.declared.contents.FilesFault.{FilesFault}
 use Rattle.pn_registry.specs.declared.contents.FilesFault.TheVariants.{Modules, TooLarge, Entries, Fault, Memory}
 use Rattle.pn_registry.proofs.Clean.{large}
 use Rattle.pn_registry.proofs.Distinct.{no_longer}
-use Rattle.pn_registry.proofs.Finds.{all_in, listed_file, not_before_back, not_before_itself}
-use Rattle.pn_registry.proofs.Lists.{none_in, in_cons, here, there}
-use Rattle.pn_registry.proofs.Orders.{good_below, same_length, same_path}
+use Rattle.pn_registry.proofs.Finds.{all_in, listed_file}
+use Rattle.pn_text.proofs.Bools.{true_false}
+use Rattle.pn_text.proofs.Orders.{not_before_self, not_both_before}
+use Rattle.pn_text.proofs.Paths.{below_one}
+use Rattle.pn_text.proofs.Members.{none_in, in_cons, here, there}
+use Rattle.pn_registry.proofs.Orders.{good_below, same_length}
 
 few_or_many : (t : Tree) (at : Path) (limit : ℕ) → HasFew t at limit → HasMany t at limit → ⊥
 few_or_many t at limit few many =
@@ -46,12 +49,9 @@ one_text x y a b = elim (slice_cmp nat_cmp x y) as (λ o. slice_cmp nat_cmp x y 
 one_first : (so : File → Bool) (t : Tree) → IsTree t → (at : Path) (f g : File) → IsFirstFile so t at f → IsFirstFile so t at g → f ≡ g
 one_first so t tree at f g a b =
     let text = one_text (text_below f.0) (text_below g.0) (b.first f.0 f.1 a.stands a.is) (a.first g.0 g.1 b.stands b.is) in
-    let path : f.0 ≡ g.0 = same_path f.0 g.0 (good_below t tree at f.0 f.1 a.stands) (good_below t tree at g.0 g.1 b.stands) text in
+    let path : f.0 ≡ g.0 = below_one f.0 g.0 (good_below t tree at f.0 f.1 a.stands) (good_below t tree at g.0 g.1 b.stands) text in
     let size : f.1 ≡ g.1 = same_length t (g.0 ++ at) f.1 g.1 (subst (λ (q : Path). IsFileOf f.1 (t (q ++ at))) path a.stands) b.stands in
     λ i. (path i, size i)
-
-true_false : (b : Bool) → b ≡ true → b ≡ false → ⊥
-true_false b x y = cc
 
 pub cause : FilesCauseLaw
 cause t tree at (Modules p) (Modules q) a b = ap (λ (f : File). Modules f.0) (one_first is_modular t tree at (p, a.length) (q, b.length) a.first b.first)
@@ -97,14 +97,14 @@ heads x y xs ys a b i j = elim (in_cons y ys x i) [
   | inl e ↦ sym e
   | inr later ↦ elim (in_cons x xs y j) [
     | inl e ↦ e
-    | inr also ↦ absurd (not_before_back (text_below x.0) (text_below y.0) (before x xs y a also) (before y ys x b later))
+    | inr also ↦ absurd (not_both_before (text_below x.0) (text_below y.0) (before x xs y a also) (before y ys x b later))
   ]
 ]
 
 -- what both lists have behind one head
 tails : (x : File) (xs ys : List File) → IsRising (x ∷ xs) → ((f : File) → Contains (x ∷ xs) f → Contains (x ∷ ys) f) → (f : File) → Contains xs f → Contains ys f
 tails x xs ys rising all f i = elim (in_cons x ys f (all f (there x xs f i))) [
-  | inl e ↦ absurd (not_before_itself (text_below x.0) (subst (λ (z : File). slice_cmp nat_cmp (text_below x.0) (text_below z.0) ≡ Less) (sym e) (before x xs f rising i)))
+  | inl e ↦ absurd (not_before_self (text_below x.0) (subst (λ (z : File). slice_cmp nat_cmp (text_below x.0) (text_below z.0) ≡ Less) (sym e) (before x xs f rising i)))
   | inr j ↦ j
 ]
 

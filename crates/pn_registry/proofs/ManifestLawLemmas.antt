@@ -3,6 +3,7 @@ use Rattle.std.proofs.Common.{◌≡◌, ◌≤◌, ◌<◌, ℕ, List, Some, No
 use Rattle.std.specs.Prelude.{Option, option_map, option_and_then}
 use Rattle.serde_json.specs.Data.{Data}
 use Rattle.pn_fs.specs.Tree.{Tree, Entry, file}
+use Rattle.pn_fs.proofs.SeenLemmas.{file_once}
 use Rattle.pn_read.specs.Small.{IsFileOf}
 use Rattle.pn_manifest.specs.Exact.{Id}
 use Rattle.pn_manifest.specs.Fields.{Spot}
@@ -17,9 +18,6 @@ use Rattle.pn_registry.specs.PackageFaults.{IsNoText, WrongFile}
 use Rattle.pn_registry.specs.Places.{manifest_path}
 use Rattle.pn_registry.specs.declared.package.PackageFault.{PackageFault}
 use Rattle.pn_registry.specs.declared.package.PackageFault.TheVariants.{Wrong, TooLarge, Fault, Memory}
-
-pub file_once : (e : Option Entry) (x y : List ℕ) → e ≡ Some (file x) → e ≡ Some (file y) → x ≡ y
-file_once e x y a b = cc
 
 value_once : (x y : Data) (o : Option Data) → o ≡ Some x → o ≡ Some y → x ≡ y
 value_once x y o a b = cc
@@ -40,7 +38,7 @@ not_unreadable e d text h =
     let bytes = file_once e text.bytes h.bytes text.is h.is in
     h.none d (subst (λ (b : List ℕ). IsObjectText b d) bytes text.text)
 
-none_some : {A : Type 0} (o : Option A) (x : A) → o ≡ None → o ≡ Some x → ⊥
+pub none_some : {A : Type 0} (o : Option A) (x : A) → o ≡ None → o ≡ Some x → ⊥
 none_some o x a b = cc
 
 -- a right text shows nothing wrong

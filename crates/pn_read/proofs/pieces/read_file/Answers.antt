@@ -3,7 +3,7 @@ use Rattle.std.proofs.lemmas.List.{length-take-le}
 use Rattle.pn_fs.specs.Tree.{file}
 use Rattle.pn_fs.specs.Pieces.{IsPiece}
 use Rattle.pn_text.proofs.Results.{for_some, if_some}
-use Rattle.pn_fs.proofs.SeenLemmas.{keeps_on, and_bytes, and_nothing}
+use Rattle.pn_fs.proofs.SeenLemmas.{keeps_on, and_bytes}
 use Rattle.pn_read.proofs.FrontLemmas.{IsFront, grown_front, whole_front}
 use Rattle.pn_read.proofs.pieces.read_file.Goals as goal
 

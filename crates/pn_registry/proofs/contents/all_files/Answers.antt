@@ -1,7 +1,7 @@
 use Rattle.std.proofs.Common.{map}
 use Rattle.pn_registry.specs.Files.{IsFilesOf}
 use Rattle.pn_registry.specs.Listed.{file_of}
-use Rattle.pn_registry.proofs.Leads.{for_some, if_some}
+use Rattle.pn_text.proofs.Results.{for_some, if_some}
 use Rattle.pn_registry.proofs.Orders.{kept_files}
 use Rattle.pn_registry.proofs.Keeping.{kept_apart}
 use Rattle.pn_registry.proofs.ShortFiles.{short_kept}

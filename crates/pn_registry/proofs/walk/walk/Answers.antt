@@ -1,12 +1,12 @@
 use Rattle.std.proofs.Common.{◌≡◌, ◌∙◌, ◌++◌, ◌∷◌, ◌-◌, [], take, ap, refl, sym, subst, arith, map}
 use Rattle.std.specs.List.{All, Contains}
 use Rattle.std.proofs.lemmas.List.Elements.{All-nil, Contains-push}
-use Rattle.pn_read.proofs.Kept.{keeps_on}
+use Rattle.pn_fs.proofs.SeenLemmas.{keeps_on}
 use Rattle.pn_registry.specs.Below.{AllWithin, HasFew}
 use Rattle.pn_registry.specs.Files.{IsFilesOf}
 use Rattle.pn_registry.specs.Listed.{file_of, placed, IsShortFile}
 use Rattle.pn_registry.specs.Turns.{Lists}
-use Rattle.pn_registry.proofs.Leads.{for_some, if_some}
+use Rattle.pn_text.proofs.Results.{for_some, if_some}
 use Rattle.pn_registry.proofs.Walks.{Walks, at_first, turned, files_found, few_seen}
 use Rattle.pn_registry.proofs.Within.{within_itself, within_front, within_last}
 use Rattle.pn_registry.proofs.Refusals.{walk_refused}
@@ -39,7 +39,7 @@ pub folders-preserved : goal.folders-preserved
 folders-preserved g c =
     let inv = c.folders.invariant in
     record {
-      kept = keeps_on inv.kept c.in-Ok.ensures.kept;
+      kept = keeps_on (g.R.ReadFs.seen c.args.registry.now) (g.R.ReadFs.seen c.folders.registry) (g.R.ReadFs.seen c.list_folder.new.registry) inv.kept c.in-Ok.ensures.kept;
       within = omega (arith, inv.within, c.in-Ok.ensures.room);
       all_within = c.in-Ok.ensures.all_within;
       short = c.in-Ok.ensures.short;
