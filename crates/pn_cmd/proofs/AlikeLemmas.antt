@@ -234,7 +234,7 @@ both_done i t r old new other now s v st ot es ev a b da db one =
     record {
       status = es ∙ sym ev;
       tree = ia.1 ∙ ap Some trees ∙ sym ib.1;
-      out = λ began. da.told ∙ (λ j. told_more (began j) (report_of (lengths j))) ∙ sym db.told;
+      out = λ began. da.told.all ∙ (λ j. told_more (began j) (report_of (lengths j))) ∙ sym db.told.all;
     }
 
 found_told : (t r : Tree) (i : Inputs) (old : World) (b : Build) → Starts t r old → install.Finds i (trees_of old) b → install.Finds i (told t r).trees b

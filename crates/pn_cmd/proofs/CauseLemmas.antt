@@ -40,7 +40,7 @@ goal_at i w s k f =
     tree_at i w s k5 (record { value = k4; first = g4; rest = f5 }) c))
 
 -- the cause of a refusal is at one of the points, after all that is found before it
-refused_at : (i : Inputs) (w : Shown) (s : Status) → install.Cause i w s → StandsAt i w s
+pub refused_at : (i : Inputs) (w : Shown) (s : Status) → install.Cause i w s → StandsAt i w s
 refused_at i w s =
     leads_then words_at (then workspace_at (then manifest_at goal)) i w s at_words (λ k1 f1.
     leads_then workspace_at (then manifest_at goal) k1 w s (λ c. at_workspace (k1, f1, c)) (λ k2 f2.

@@ -4,6 +4,7 @@ use Rattle.std.specs.Prelude.{IfSome}
 use Rattle.serde_json.specs.Data.{Data}
 use Rattle.pn_text.specs.Path.{Path}
 use Rattle.pn_fs.specs.Tree.{Entry, Tree}
+use Rattle.pn_fs.proofs.SeenLemmas.{file_once}
 use Rattle.pn_manifest.specs.Pairs.{Pair}
 use Rattle.pn_manifest.specs.Fields.{edges_of}
 use Rattle.pn_layout.specs.declared.packages.Package.{Package}
@@ -14,12 +15,12 @@ use Rattle.pn_cmd.specs.Lookup.{LooksUp}
 use Rattle.pn_cmd.specs.Endings.{Installs, IsInstalled}
 use Rattle.pn_cmd.specs.Laws.{LookupLaw}
 use Rattle.pn_cmd.proofs.CauseLemmas.{end_cause}
-use Rattle.pn_cmd.proofs.OrderLemmas.{same_bytes, same_data}
+use Rattle.pn_cmd.proofs.OrderLemmas.{same_data}
 use Rattle.pn_cmd.proofs.PassedLemmas.{has_passed}
 
 -- the two manifests at one path are one
 pub same_manifest : (e : Option Entry) (d f : Data) → IsManifest e d → IsManifest e f → d ≡ f
-same_manifest e d f h k = same_data h.bytes k.bytes d f (same_bytes e h.bytes k.bytes h.stands.is k.stands.is) h.text k.text
+same_manifest e d f h k = same_data h.bytes k.bytes d f (file_once e h.bytes k.bytes h.stands.is k.stands.is) h.text k.text
 
 pub installed_at : (registry : Option Tree) (place : Path) (own : List Pair) (packages : List Package) (t u r : Tree) (old new : Option Tree) → registry ≡ Some r → old ≡ Some t → new ≡ Some u → Installs registry place own packages old new → IsInstalled (Some r) place own packages t u
 installed_at registry place own packages t u r old new er eo en h =

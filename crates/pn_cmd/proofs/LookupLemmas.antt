@@ -6,6 +6,7 @@ use Rattle.std.proofs.lemmas.List.Elements.{All-contains}
 use Rattle.std.proofs.lemmas.List.Sorted.{Contains-permutation}
 use Rattle.serde_json.specs.Data.{Data}
 use Rattle.pn_text.specs.Path.{Path}
+use Rattle.pn_text.specs.Ids.{id_name}
 use Rattle.pn_text.specs.Name.{is_name, name_path}
 use Rattle.pn_fs.specs.Tree.{folder, file, Entry, Tree, IsTree}
 use Rattle.pn_node.specs.Find.{find}
@@ -39,7 +40,7 @@ use Rattle.pn_cmd.specs.Lookup.{LooksUp, FindsFrom, package_home}
 record IsOne (id : Id) (value : Data) (packages : List Package) : Type 0 where
   pub found : Package
   pub here : Contains packages found
-  pub same : called found ≡ (id.name, id.version)
+  pub same : found.id ≡ id
   pub edges : found.dependencies ≡ edges_of value
 
 one_of : (r : Tree) (own : List Pair) (met : List Found) (packages : List Package) (id : Id) (value : Data) → IsReached (Some r) own met → ArePackages (Some r) own met packages → Reaches r own id → IsText (r (manifest_path id)) value → IsOne id value packages
@@ -51,16 +52,16 @@ one_of r own met packages id value reached are reaches text =
     record {
       found = p.0;
       here = p.1;
-      same = ap (λ (o : Outline). o.pair) p.2 ∙ ap (λ (i : Id). (i.name, i.version)) q.2;
+      same = ap (λ (o : Outline). o.id) p.2 ∙ q.2;
       edges = ap (λ (o : Outline). o.dependencies) p.2 ∙ found.edges ∙ ap edges_of value_is;
     }
 
 -- what a package finds, said of its id and its manifest
-own_is : (u : Tree) (place : Path) (id : Id) (value : Data) (p : Package) (from : Path) → called p ≡ (id.name, id.version) → p.dependencies ≡ edges_of value → FindsOwn u (modules_path place) p from → FindsFrom u place id (edges_of value) from
+own_is : (u : Tree) (place : Path) (id : Id) (value : Data) (p : Package) (from : Path) → p.id ≡ id → p.dependencies ≡ edges_of value → FindsOwn u (modules_path place) p from → FindsFrom u place id (edges_of value) from
 own_is u place id value p from same edges h =
-    let name : p.name ≡ id.name = ap (λ (c : Pair). c.0) same in
+    let name : id_name p.id ≡ id_name id = ap id_name same in
     record {
-      own = subst (λ (n : List ℕ). find u from (name_path n) ≡ Some (package_home place id)) name (h.own ∙ ap (λ (c : Pair). Some (home_of (modules_path place) c)) same);
+      own = subst (λ (i : Id). find u from (name_path (id_name i)) ≡ Some (package_home place i)) same h.own;
       dependency = λ e c. h.dependency e (subst (λ (l : List Pair). Contains l e) (sym edges) c);
       other = λ x named apart none. h.other x named (λ e. apart (e ∙ name)) (λ d c. none d (subst (λ (l : List Pair). Contains l d) edges c));
     }
@@ -69,7 +70,7 @@ inside_is : (r u : Tree) (place : Path) (own : List Pair) (met : List Found) (pa
     → (id : Id) (value : Data) (inner : Path) → Reaches r own id → IsText (r (manifest_path id)) value → u (inner ++ package_home place id) ≡ Some folder → FindsFrom u place id (edges_of value) (inner ++ package_home place id)
 inside_is r u place own met packages reached are all id value inner reaches text stands =
     let one = one_of r own met packages id value reached are reaches text in
-    let home : home_of (modules_path place) (called one.found) ≡ package_home place id = ap (home_of (modules_path place)) one.same in
+    let home : home_of (modules_path place) (called one.found) ≡ package_home place id = ap (package_home place) one.same in
     subst (λ (h : Path). FindsFrom u place id (edges_of value) (inner ++ h)) home
     (own_is u place id value one.found (inner ++ home_of (modules_path place) (called one.found)) one.same one.edges
     (all.inside one.found inner one.here (subst (λ (h : Path). u (inner ++ h) ≡ Some folder) (sym home) stands)))

@@ -4,6 +4,7 @@ use Rattle.std.specs.Prelude.{IfSome}
 use Rattle.serde_json.specs.Data.{Data}
 use Rattle.pn_text.specs.Path.{Path, path_text}
 use Rattle.pn_fs.specs.Tree.{Entry, file, Tree}
+use Rattle.pn_fs.proofs.SeenLemmas.{file_once}
 use Rattle.pn_manifest.specs.Text.{IsObjectText}
 use Rattle.pn_manifest.specs.Fields.{first_wrong}
 use Rattle.pn_manifest.specs.Pairs.{Pair}
@@ -17,8 +18,8 @@ use Rattle.pn_collect.specs.Packages.{ArePackages}
 use Rattle.pn_collect.specs.CollectFaults.{IsFirstRefused}
 use Rattle.pn_collect.specs.declared.fault.CollectFault.{CollectFault}
 use Rattle.pn_collect.proofs.Passed.{passed as listed_passed}
-use Rattle.pn_cmd.specs.declared.status.ManifestWhy.{ManifestWhy}
-use Rattle.pn_cmd.specs.declared.status.ManifestWhy.TheVariants.{Missing, NotJson, BadField}
+use Rattle.pn_manifest.specs.declared.fault.ManifestWhy.{ManifestWhy}
+use Rattle.pn_manifest.specs.declared.fault.ManifestWhy.TheVariants.{Missing, NotJson, BadField}
 use Rattle.pn_cmd.specs.declared.status.Which.TheVariants.{Text, Path as PathLength}
 use Rattle.pn_cmd.specs.declared.status.Status.{Status}
 use Rattle.pn_cmd.specs.declared.status.Status.TheVariants.{Usage, Manifest as BadManifest, Limit, ProjectFault, RegistryFault, NotYet}
@@ -45,9 +46,6 @@ stands_law p w y (NotYet text) told ok h =
 stands_law p w y ProjectFault told ok h = tt
 stands_law p w y s told ok h = absurd h
 
-pub same_bytes : (e : Option Entry) (a b : List ℕ) → e ≡ Some (file a) → e ≡ Some (file b) → a ≡ b
-same_bytes e a b h k = cc
-
 pub same_data : (bytes other : List ℕ) (d f : Data) → bytes ≡ other → IsObjectText bytes d → IsObjectText other f → d ≡ f
 same_data bytes other d f e h k = cc (h.read, k.read, e)
 
@@ -57,20 +55,20 @@ manifest_at t registry p d ProjectFault ok h = tt
 manifest_at t registry p d (Limit PathLength n) ok h = absurd (omega (arith, ok.fits, h.0, h.1))
 manifest_at t registry p d (Limit Text n) ok h =
     let m = ok.read in
-    absurd (omega (arith, m.stands.short, ap length (same_bytes (t p) m.bytes h.2.0 m.stands.is h.2.1), h.2.2, h.1))
+    absurd (omega (arith, m.stands.short, ap length (file_once (t p) m.bytes h.2.0 m.stands.is h.2.1), h.2.2, h.1))
 manifest_at t registry p d (BadManifest text Missing) ok h = absurd (h.2 ok.read.bytes ok.read.stands.is)
 manifest_at t registry p d (BadManifest text NotJson) ok h =
     let m = ok.read in
-    absurd (h.2.2 d (subst (λ b. IsObjectText b d) (same_bytes (t p) m.bytes h.2.0 m.stands.is h.2.1.is) m.text))
+    absurd (h.2.2 d (subst (λ b. IsObjectText b d) (file_once (t p) m.bytes h.2.0 m.stands.is h.2.1.is) m.text))
 manifest_at t registry p d (BadManifest text (BadField f k)) ok h =
     let m = ok.read in
-    let one = same_data m.bytes h.2.0 d h.2.1 (same_bytes (t p) m.bytes h.2.0 m.stands.is h.2.2.is) m.text h.2.3 in
+    let one = same_data m.bytes h.2.0 d h.2.1 (file_once (t p) m.bytes h.2.0 m.stands.is h.2.2.is) m.text h.2.3 in
     let clash : first_wrong h.2.1 ≡ None = subst (λ e. first_wrong e ≡ None) one m.right in
     absurd (cc (clash, h.2.4))
 manifest_at t registry p d (NotYet key) ok h =
     let m = ok.read in
     let n = h.1.1 in
-    let one = same_data m.bytes n.bytes d h.1.0 (same_bytes (t p) m.bytes n.bytes m.stands.is n.stands.is) m.text n.text in
+    let one = same_data m.bytes n.bytes d h.1.0 (file_once (t p) m.bytes n.bytes m.stands.is n.stands.is) m.text n.text in
     let clash : project_later h.1.0 ≡ None = subst (λ e. project_later e ≡ None) one ok.built in
     absurd (cc (clash, h.1.2))
 manifest_at t registry p d s ok h = absurd h

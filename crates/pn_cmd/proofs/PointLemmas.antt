@@ -1,15 +1,12 @@
 -- Lemmas on points that follow one another.
-use Rattle.std.proofs.Common.{◌≡◌, ◌≤◌, ℕ, Result, Ok, Err, refl, ◌∙◌, subst, arith, inl, inr}
-use Rattle.std.specs.Prelude.{IfErr}
+use Rattle.std.proofs.Common.{◌≡◌, refl, subst, inl, inr}
 use Rattle.pn_text.specs.Causes.{Rose}
 use Rattle.pn_fs.specs.Seen.{Seen, Taken, Keeps}
+use Rattle.pn_fs.proofs.SeenLemmas.{keeps_same, rose_from}
 use Rattle.pn_cmd.specs.declared.status.Status.{Status}
 use Rattle.pn_cmd.specs.declared.status.Status.TheVariants.{Memory, ProjectFault, RegistryFault, SinkFault}
 use Rattle.pn_cmd.specs.World.{World, Shown, AreKept, world, trees_of, shown}
 use Rattle.pn_cmd.specs.Points.{Point, Refuses, then}
-
-rose_from : (a b c : ℕ) → a ≤ b → Rose b c → Rose a c
-rose_from a b c l h = omega (arith, l, h)
 
 same_trees : (old mid : World) → AreKept old mid → trees_of mid ≡ trees_of old
 same_trees old mid k = λ i. record { project = k.project.tree i; registry = k.registry.tree i }
@@ -25,22 +22,12 @@ refuses_from C D old mid new RegistryFault k f h = (rose_from old.registry.fault
 refuses_from C D old mid new SinkFault k f h = (subst (λ (t : Taken). Rose t.faults new.out.faults) k.out h.0, f SinkFault (subst (λ w. C w SinkFault) (same_shown old mid k) h.1))
 refuses_from C D old mid new s k f h = f s (subst (λ w. C w s) (same_shown old mid k) h)
 
-pub unchanged : (a : Seen) → Keeps a a
-unchanged a = record { tree = refl; touched = refl; later = omega arith }
-
-pub kept_seen : (a b c : Seen) → Keeps a b → Keeps b c → Keeps a c
-kept_seen a b c h k = record { tree = k.tree ∙ h.tree; touched = k.touched ∙ h.touched; later = omega (arith, h.later, k.later) }
-
 -- calls of the two trees
 pub kept : (a b c d : Seen) (out : Taken) → Keeps a b → Keeps c d → AreKept (world a c out) (world b d out)
 kept a b c d out h k = record { project = h; registry = k; out = refl }
 
 pub kept_none : (w : World) → AreKept w w
-kept_none w = record { project = unchanged w.project; registry = unchanged w.registry; out = refl }
-
-pub on_err : {T : Type 0} {P Q : Status → Type 0} (r : Result T Status) → ((s : Status) → P s → Q s) → IfErr r P → IfErr r Q
-on_err (Ok v) f h = tt
-on_err (Err s) f h = f s h
+kept_none w = record { project = keeps_same w.project; registry = keeps_same w.registry; out = refl }
 
 -- the first point refuses
 pub first_refuses : {X Y Z : Type 0} (p : Point X Y) (q : Point Y Z) (x : X) (old new : World) (s : Status) → Refuses (p.Cause x) old new s → Refuses ((then p q).Cause x) old new s

@@ -1,5 +1,6 @@
 -- What each answer rests on.
-use Rattle.std.specs.Prelude.{◌≡◌, ◌⊎◌, Some, None}
+use Rattle.std.specs.Prelude.{◌≡◌, ◌+◌, ◌⊎◌, Some, None}
+use Rattle.pn_text.specs.declared.limits.TheConstants.{FILE_LIMIT}
 use Rattle.pn_text.specs.Causes.{Rose}
 use Rattle.pn_cmd.specs.declared.status.Which.TheVariants.{Packages, File, Text, Path as PathLength, Entries}
 use Rattle.pn_cmd.specs.declared.status.Status.{Status}
@@ -46,7 +47,7 @@ CauseOf i old new (Limit PathLength n) =
     IsKept i (shown old) (Limit PathLength n)
     ⊎ (IsUnread i (shown old) (Limit PathLength n)
     ⊎ IsUnplanned i (shown old) (Limit PathLength n))
-CauseOf i old new (Limit File n) = IsUnlisted i (shown old) (Limit File n) ⊎ ((n ≡ 268435457) × (old.registry.tree ≡ None))
+CauseOf i old new (Limit File n) = IsUnlisted i (shown old) (Limit File n) ⊎ ((n ≡ FILE_LIMIT + 1) × (old.registry.tree ≡ None))
 CauseOf i old new (Limit Entries n) = IsUnlisted i (shown old) (Limit Entries n)
 CauseOf i old new ProjectFault = Rose old.project.faults new.project.faults
 CauseOf i old new RegistryFault = Rose old.registry.faults new.registry.faults

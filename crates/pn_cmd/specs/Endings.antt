@@ -1,8 +1,8 @@
 -- How a run ends.
-use Rattle.std.specs.Prelude.{◌≡◌, List, Option, None, Some, IfSome, MatchOption, false}
+use Rattle.std.specs.Prelude.{◌≡◌, ◌+◌, List, Option, None, Some, IfSome, MatchOption, false}
+use Rattle.pn_text.specs.declared.limits.TheConstants.{FILE_LIMIT}
 use Rattle.pn_text.specs.Path.{Path}
 use Rattle.pn_fs.specs.Tree.{Tree, IsTree}
-use Rattle.pn_fs.specs.Takes.{told_more}
 use Rattle.pn_node.specs.Plan.{IsBuilt}
 use Rattle.pn_manifest.specs.Pairs.{Pair}
 use Rattle.pn_plan.specs.Drawing.{is_within}
@@ -18,14 +18,14 @@ use Rattle.pn_cmd.specs.Names.{modules_path}
 use Rattle.pn_cmd.specs.Known.{Build}
 use Rattle.pn_cmd.specs.Chain.{install}
 use Rattle.pn_cmd.specs.Lookup.{LooksUp}
-use Rattle.pn_cmd.specs.Reports.{report, TookSome}
+use Rattle.pn_cmd.specs.Reports.{report, TookAll, TookSome}
 
 -- The writing stops for a fault of the project or of the registry, or where a file of a registry that tells nothing went
 -- on past the limit.
 abbrev pub Stops : Shown → Status → Type 0
 Stops w ProjectFault = Unit {0}
 Stops w RegistryFault = Unit {0}
-Stops w (Limit File n) = (n ≡ 268435457) × (w.trees.registry ≡ None)
+Stops w (Limit File n) = (n ≡ FILE_LIMIT + 1) × (w.trees.registry ≡ None)
 Stops w s = ⊥
 
 -- The report is refused for a fault of the output.
@@ -66,7 +66,7 @@ pub record Written (i : Inputs) (b : Build) (old new : World) : Type 0 where
 pub record IsDone (i : Inputs) (b : Build) (old new : World) : Type 0 where
   pub passed : install.Finds i (trees_of old) b
   pub written : Written i b old new
-  pub told : new.out.bytes ≡ told_more old.out.bytes (report b.sources.packages)
+  pub told : TookAll (report b.sources.packages) old.out new.out
 
 -- How a run ends: with the first refusal, before anything is written; in the writing; at the report; or done.
 pub data Ends (i : Inputs) (old new : World) : Status → Type 0 where

@@ -4,14 +4,10 @@ use Rattle.pn_text.specs.Path.{Path, path_text}
 use Rattle.pn_manifest.specs.Pairs.{Pair}
 use Rattle.pn_registry.specs.Places.{manifest_path}
 use Rattle.pn_choice.specs.Refusals.{IsStopped}
-use Rattle.pn_choice.specs.declared.fault.PackageWhy.{PackageWhy}
-use Rattle.pn_choice.specs.declared.fault.PackageWhy.TheVariants.{Missing as NoFile, NotJson as NoJson, BadField as WrongField}
 use Rattle.pn_choice.specs.declared.fault.ReachFault.{ReachFault}
 use Rattle.pn_choice.specs.declared.fault.ReachFault.TheVariants.{NotYet as FaultNotYet, NoVersion as FaultNoVersion, TextLimit as FaultText, Manifest as FaultManifest, Packages as FaultPackages, Fault, Memory as NoMemory}
 use Rattle.pn_choice.specs.declared.package.Package.{Package as Found}
 use Rattle.pn_choice.specs.Walked.{IsReached}
-use Rattle.pn_cmd.specs.declared.status.ManifestWhy.{ManifestWhy}
-use Rattle.pn_cmd.specs.declared.status.ManifestWhy.TheVariants.{Missing, NotJson, BadField}
 use Rattle.pn_cmd.specs.declared.status.Which.TheVariants.{Packages, Text}
 use Rattle.pn_cmd.specs.declared.status.Status.{Status}
 use Rattle.pn_cmd.specs.declared.status.Status.TheVariants.{Memory, Manifest as BadManifest, NoVersion, Limit, RegistryFault, NotYet}
@@ -22,18 +18,12 @@ use Rattle.pn_cmd.specs.Points.{Point}
 abbrev pub registry_text : Path → List ℕ
 registry_text p = codes "registry:" ++ path_text p
 
--- what is wrong with a package's manifest, as a manifest's
-abbrev pub why_of : PackageWhy → ManifestWhy
-why_of NoFile = Missing
-why_of NoJson = NotJson
-why_of (WrongField f k) = BadField f k
-
 -- the status that tells of a refusal
 abbrev pub reach_status : ReachFault → Status
 reach_status (FaultNotYet text) = NotYet text
 reach_status (FaultNoVersion e) = NoVersion e
 reach_status (FaultText n) = Limit Text n
-reach_status (FaultManifest id why) = BadManifest (registry_text (manifest_path id)) (why_of why)
+reach_status (FaultManifest id why) = BadManifest (registry_text (manifest_path id)) why
 reach_status (FaultPackages n) = Limit Packages n
 reach_status Fault = RegistryFault
 reach_status NoMemory = Memory

@@ -14,6 +14,7 @@ use Rattle.pn_cmd.specs.Manifests.{IsManifest, manifest}
 use Rattle.pn_cmd.specs.Graph.{reached}
 use Rattle.pn_cmd.specs.Packages.{listed}
 use Rattle.pn_cmd.specs.Plans.{planned}
+use Rattle.pn_cmd.specs.Chain.{install, StandsAt}
 use Rattle.pn_cmd.specs.Lookup.{LooksUp}
 use Rattle.pn_cmd.specs.Endings.{Ends}
 use Rattle.pn_cmd.specs.Causes.{CauseOf}
@@ -21,6 +22,10 @@ use Rattle.pn_cmd.specs.Causes.{CauseOf}
 -- Each answer has its cause.
 abbrev pub CauseLaw : Type 0
 CauseLaw = (i : Inputs) (old new : World) (s : Status) → Ends i old new s → CauseOf i old new s
+
+-- The cause of a refusal is at one of the points, after all that is found before it.
+abbrev pub PointLaw : Type 0
+PointLaw = (i : Inputs) (w : Shown) (s : Status) → install.Cause i w s → StandsAt i w s
 
 -- After an install each package finds what it depends on, and so does the project, where the trees are told.
 abbrev pub LookupLaw : Type 0

@@ -1,5 +1,6 @@
 -- The point at which the packages' files are listed.
-use Rattle.std.specs.Prelude.{◌≡◌, List}
+use Rattle.std.specs.Prelude.{◌≡◌, ◌+◌, List}
+use Rattle.pn_text.specs.declared.limits.TheConstants.{ENTRY_LIMIT}
 use Rattle.pn_choice.specs.declared.package.Package.{Package as Found}
 use Rattle.pn_layout.specs.declared.packages.Package.{Package}
 use Rattle.pn_collect.specs.CollectFaults.{IsFirstRefused}
@@ -18,7 +19,7 @@ use Rattle.pn_cmd.specs.Known.{Graph}
 abbrev pub collect_status : CollectFault → Status
 collect_status (Modules path) = NotYet (registry_text path)
 collect_status (TooLarge n) = Limit File n
-collect_status FaultEntries = Limit Entries 4194305
+collect_status FaultEntries = Limit Entries (ENTRY_LIMIT + 1)
 collect_status Fault = RegistryFault
 collect_status NoMemory = Memory
 

@@ -1,5 +1,6 @@
 -- The point at which the tree is planned.
 use Rattle.std.specs.Prelude.{◌≤◌, List, length}
+use Rattle.pn_text.specs.declared.limits.TheConstants.{PATH_LIMIT}
 use Rattle.pn_text.specs.Path.{Path, path_text}
 use Rattle.pn_fs.specs.Tree.{Entry, Tree}
 use Rattle.pn_node.specs.Plan.{InBuild}
@@ -25,7 +26,7 @@ TooLong k w s = ⊥
 
 -- no path of the build is too long
 abbrev pub Fits : Path → List Pair → List Package → Type 0
-Fits place own packages = (r : Tree) (q : Path) (e : Entry) → InBuild (plan_of r (modules_path place) own packages) q e → length (path_text q) ≤ 4096
+Fits place own packages = (r : Tree) (q : Path) (e : Entry) → InBuild (plan_of r (modules_path place) own packages) q e → length (path_text q) ≤ PATH_LIMIT
 
 -- What is written is the build.
 pub record IsPlan (place : Path) (own : List Pair) (packages : List Package) (plan : List Planned) : Type 0 where

@@ -1,7 +1,7 @@
 -- The report of an install.
 use Rattle.std.specs.Prelude.{◌≡◌, ◌⊎◌, ◌≤◌, ℕ, List, ◌++◌, codes, length, take}
 use Rattle.std.specs.Fmt.{decimal}
-use Rattle.pn_text.specs.Causes.{Rose}
+use Rattle.pn_text.specs.Causes.{Rose, count_after}
 use Rattle.pn_fs.specs.Seen.{Taken}
 use Rattle.pn_fs.specs.Takes.{told_more}
 use Rattle.pn_layout.specs.declared.packages.Package.{Package}
@@ -15,13 +15,19 @@ report_of n = codes "projects 1\npackages " ++ decimal n ++ codes "\ninstances "
 abbrev pub report : List Package → List ℕ
 report packages = report_of (length packages)
 
--- a prefix of the text was taken
-abbrev pub TookSome : List ℕ → Taken → Taken → Type 0
-TookSome text old new = (new.bytes ≡ old.bytes) ⊎ ((k : ℕ) × (k ≤ length text) × (new.bytes ≡ told_more old.bytes (take k text)))
+-- The sink was asked once, and took the text.
+pub record TookAll (text : List ℕ) (old new : Taken) : Type 0 where
+  pub asked : new.calls ≡ count_after old.calls
+  pub all : new.bytes ≡ told_more old.bytes text
+
+-- The sink was asked once, and took a front of the text or nothing.
+pub record TookSome (text : List ℕ) (old new : Taken) : Type 0 where
+  pub asked : new.calls ≡ count_after old.calls
+  pub front : (new.bytes ≡ old.bytes) ⊎ ((k : ℕ) × (k ≤ length text) × (new.bytes ≡ told_more old.bytes (take k text)))
 
 -- The report was taken, or it was refused for want of memory or for a fault of the output.
 abbrev pub Reported : List ℕ → Taken → Taken → Status → Type 0
-Reported text old new Done = new.bytes ≡ told_more old.bytes text
+Reported text old new Done = TookAll text old new
 Reported text old new Memory = TookSome text old new
 Reported text old new SinkFault = Rose old.faults new.faults × TookSome text old new
 Reported text old new s = ⊥

@@ -1,5 +1,6 @@
 -- The points at which nothing is to stand at a path.
 use Rattle.std.specs.Prelude.{◌≡◌, ◌≢◌, ◌<◌, ◌≤◌, ℕ, length, Option, None, IfSome}
+use Rattle.pn_text.specs.declared.limits.TheConstants.{PATH_LIMIT}
 use Rattle.pn_text.specs.Path.{Path, path_text}
 use Rattle.pn_fs.specs.Tree.{Tree}
 use Rattle.pn_cmd.specs.declared.status.Which.TheVariants.{Path as PathLength}
@@ -9,14 +10,14 @@ use Rattle.pn_cmd.specs.World.{Shown}
 use Rattle.pn_cmd.specs.Points.{Point}
 
 pub record NothingStands (project : Option Tree) (p : Path) : Type 0 where
-  pub fits : length (path_text p) ≤ 4096
+  pub fits : length (path_text p) ≤ PATH_LIMIT
   pub absent : IfSome project (λ t. t p ≡ None)
 
 -- The path is too long, or something stands there. A path that is too long isn't asked for.
 abbrev pub Stands : Path → Shown → Status → Type 0
-Stands p w (Limit PathLength n) = (n ≡ length (path_text p)) × (4096 < n)
-Stands p w (NotYet text) = (text ≡ path_text p) × (length text ≤ 4096) × IfSome w.trees.project (λ t. t p ≢ None)
-Stands p w ProjectFault = length (path_text p) ≤ 4096
+Stands p w (Limit PathLength n) = (n ≡ length (path_text p)) × (PATH_LIMIT < n)
+Stands p w (NotYet text) = (text ≡ path_text p) × (length text ≤ PATH_LIMIT) × IfSome w.trees.project (λ t. t p ≢ None)
+Stands p w ProjectFault = length (path_text p) ≤ PATH_LIMIT
 Stands p w s = ⊥
 
 abbrev pub standing : Point Path (Unit {0})

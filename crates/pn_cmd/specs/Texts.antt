@@ -5,8 +5,8 @@ use Rattle.pn_text.specs.Causes.{Rose}
 use Rattle.pn_text.specs.declared.ids.Edge.{Edge}
 use Rattle.pn_fs.specs.Seen.{Taken}
 use Rattle.pn_fs.specs.Takes.{told_more}
-use Rattle.pn_cmd.specs.declared.status.ManifestWhy.{ManifestWhy}
-use Rattle.pn_cmd.specs.declared.status.ManifestWhy.TheVariants.{Missing, NotJson, BadField}
+use Rattle.pn_manifest.specs.declared.fault.ManifestWhy.{ManifestWhy}
+use Rattle.pn_manifest.specs.declared.fault.ManifestWhy.TheVariants.{Missing, NotJson, BadField}
 use Rattle.pn_cmd.specs.declared.status.Which.{Which}
 use Rattle.pn_cmd.specs.declared.status.Which.TheVariants.{Packages, File, Text, Path, Entries}
 use Rattle.pn_cmd.specs.declared.status.Status.{Status}

@@ -9,11 +9,11 @@ ghost use Rattle.pn_cmd.specs.World.{world};
 ghost use Rattle.pn_cmd.specs.Points.{Refuses};
 ghost use Rattle.pn_cmd.specs.Graph.{Unreached, registry_text, reach_status};
 
-use crate::status::{ManifestWhy, Status, Which};
-use pn_choice::{PackageWhy, ReachFault, Reached, reach};
+use crate::status::{Status, Which};
+use pn_choice::{ReachFault, Reached, reach};
 use pn_fs::ReadFs;
-use pn_manifest::{ExactId, Manifest};
-use pn_text::{Memory, Text};
+use pn_manifest::{Manifest, ManifestWhy};
+use pn_text::{Memory, PkgId, Text};
 use std::alloc::{AllocError, Global};
 
 /// The packages that the project's dependencies reach.
@@ -48,14 +48,9 @@ fn unreached(alloc: Global, fault: ReachFault) -> Status
 }
 
 // The status for a wrong manifest of a package.
-fn bad_manifest(alloc: Global, id: ExactId, why: PackageWhy) -> Status
+fn bad_manifest(alloc: Global, id: PkgId, why: ManifestWhy) -> Status
     ensures { (result ≡ reach_status (WrongManifest id why)) ⊎ (result ≡ Status.Memory) }
 {
-    let why = match why {
-        PackageWhy::Missing => ManifestWhy::Missing,
-        PackageWhy::NotJson => ManifestWhy::NotJson,
-        PackageWhy::BadField(field, key) => ManifestWhy::BadField(field, key),
-    };
     match manifest_text(alloc, &id) {
         Ok(text) => Status::Manifest(text, why),
         Err(_) => Status::Memory,
@@ -63,11 +58,11 @@ fn bad_manifest(alloc: Global, id: ExactId, why: PackageWhy) -> Status
 }
 
 // The path of a package's manifest in the registry, as it is told.
-fn manifest_text(alloc: Global, id: &ExactId) -> Result<Text, Memory>
+fn manifest_text(alloc: Global, id: &PkgId) -> Result<Text, Memory>
     ensures { IfOk result (λ text. text ≡ registry_text (manifest_path id.now)) }
 {
     let name = id.name().as_path(alloc)?;
-    let Ok(line) = manifest_line(alloc, name.as_str(), id.version().as_str()) else {
+    let Ok(line) = manifest_line(alloc, name.as_str(), id.version_text()) else {
         return Err(Memory);
     };
     Text::of(alloc, line.as_str())

@@ -1,9 +1,14 @@
 // Laws of a run, which follow from how it ends.
-ghost use Rattle.pn_cmd.specs.Laws.{CauseLaw, LookupLaw, OrderLaw, SettledLaw};
+ghost use Rattle.pn_cmd.specs.Laws.{CauseLaw, PointLaw, LookupLaw, OrderLaw, SettledLaw};
 
 /// Each answer of a run has its cause.
 pub fn cause_law()
     ensures { CauseLaw }
+{}
+
+/// The cause of a refusal is at one of the points, after all that is found before it.
+pub fn point_law()
+    ensures { PointLaw }
 {}
 
 /// After an install each folder of a package finds, by Node's lookup, the package itself and each of its dependencies in

@@ -28,7 +28,8 @@ mod top;
 mod words;
 mod write;
 
-pub use laws::{cause_law, lookup_law, order_law, settled_law};
-pub use status::{ManifestWhy, Status, Which};
+pub use laws::{cause_law, lookup_law, order_law, point_law, settled_law};
+pub use pn_manifest::ManifestWhy;
+pub use status::{Status, Which};
 pub use text::tell;
 pub use top::run;

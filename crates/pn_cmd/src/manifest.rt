@@ -1,5 +1,6 @@
 // The point of the project's manifest.
 ghost use Rattle.std.specs.Prelude.{◌≡◌, ◌≤◌, ◌∷◌, ℕ, List, length, IfOk, IfErr, IfSome};
+ghost use Rattle.pn_text.specs.declared.limits.TheConstants.{PATH_LIMIT};
 ghost use Rattle.pn_text.specs.Path.{path_text};
 ghost use Rattle.pn_fs.specs.Seen.{Seen, Taken, Keeps};
 ghost use Rattle.pn_manifest.specs.Refusals.{ManifestRefused};
@@ -10,14 +11,12 @@ ghost use Rattle.pn_cmd.specs.Points.{Refuses};
 ghost use Rattle.pn_cmd.specs.Manifests.{NoManifest, Declares, IsText, FoundIn, BytesRefused};
 
 use crate::entry::{EntryFault, entry};
-use crate::status::{ManifestWhy, Status, Which};
+use crate::status::{Status, Which};
 use pn_fs::ReadFs;
-use pn_manifest::{Manifest, ManifestFault};
+use pn_manifest::{Manifest, ManifestFault, ManifestWhy};
 use pn_read::{SmallFault, read_small};
-use pn_text::{AbsPath, Text};
+use pn_text::{AbsPath, TEXT_LIMIT, Text};
 use std::alloc::Global;
-
-const TEXT_LIMIT: u64 = 16777216;
 
 /// Reads the manifest in the project's folder.
 pub fn read_manifest<P: ReadFs>(
@@ -43,7 +42,7 @@ pub fn read_manifest<P: ReadFs>(
 
 // Reads a file of the project within the limit.
 fn read_text<P: ReadFs>(alloc: Global, path: &AbsPath, project: &mut P) -> Result<Vec<u8>, Status>
-    requires { length (path_text path.now) ≤ 4096 }
+    requires { length (path_text path.now) ≤ PATH_LIMIT }
     ensures found { IfOk result (λ v. IfSome (P.seen project.old).tree (λ t. IsText (t path.now) v.items)) }
     ensures refused { (registry : Seen) (out : Taken) → IfErr result (Refuses (NoManifest path.now) (world (P.seen project.old) registry out) (world (P.seen project.new) registry out)) }
     ensures kept { Keeps (P.seen project.old) (P.seen project.new) }
@@ -87,8 +86,7 @@ fn refusal(alloc: Global, path: &AbsPath, fault: ManifestFault) -> Status
     ensures { (bytes : List ℕ) → ManifestRefused bytes fault → BytesRefused path.now bytes result }
 {
     let why = match fault {
-        ManifestFault::NotJson => ManifestWhy::NotJson,
-        ManifestFault::BadField(field, key) => ManifestWhy::BadField(field, key),
+        ManifestFault::Wrong(why) => why,
         ManifestFault::Memory => return Status::Memory,
     };
     match Text::of(alloc, path.as_str()) {

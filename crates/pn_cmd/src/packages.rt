@@ -16,7 +16,7 @@ use pn_collect::{CollectFault, collect};
 use pn_fs::ReadFs;
 use pn_layout::Package;
 use pn_manifest::Manifest;
-use pn_text::{AbsPath, Memory, Text};
+use pn_text::{AbsPath, ENTRY_LIMIT, Memory, Text};
 use std::alloc::Global;
 
 /// The packages with their files, in byte order of `name@version`.
@@ -44,7 +44,7 @@ fn unlisted(alloc: Global, fault: CollectFault) -> Status
     match fault {
         CollectFault::Modules(path) => has_modules(alloc, &path),
         CollectFault::TooLarge(length) => Status::Limit(Which::File, length),
-        CollectFault::Entries => Status::Limit(Which::Entries, 4194305),
+        CollectFault::Entries => Status::Limit(Which::Entries, ENTRY_LIMIT + 1),
         CollectFault::Fault => Status::RegistryFault,
         CollectFault::Memory => Status::Memory,
     }

@@ -1,5 +1,5 @@
 // The points at which nothing is to stand.
-ghost use Rattle.std.specs.Prelude.{◌≡◌, ◌≤◌, ◌∷◌, length, IsTrue, OnOk, IfOk, IfErr};
+ghost use Rattle.std.specs.Prelude.{◌≡◌, ◌∷◌, IsTrue, OnOk, IfOk, IfErr};
 ghost use Rattle.pn_text.specs.Path.{is_part};
 ghost use Rattle.pn_fs.specs.Seen.{Seen, Taken, Keeps};
 ghost use Rattle.pn_cmd.specs.World.{world};
@@ -20,7 +20,6 @@ pub fn nothing_stands<P: ReadFs>(
     project: &mut P,
 ) -> Result<AbsPath, Status>
     requires part { IsTrue (is_part part.now) }
-    requires short { length part.now ≤ 255 }
     ensures path { IfOk result (λ p. p ≡ part.now ∷ folder.now) }
     ensures passed { OnOk result (NothingStands (P.seen project.old).tree (part.now ∷ folder.now)) }
     ensures refused { (registry : Seen) (out : Taken) → IfErr result (Refuses (Stands (part.now ∷ folder.now)) (world (P.seen project.old) registry out) (world (P.seen project.new) registry out)) }

@@ -4,8 +4,9 @@ ghost use Rattle.std.specs.Fmt.{decimal};
 ghost use Rattle.pn_cmd.specs.Reports.{TookSome};
 ghost use Rattle.pn_cmd.specs.Texts.{status_line, why_text, which_text, edge_text, TellsLine, Tells, OrMemory};
 
-use crate::status::{ManifestWhy, Status, Which};
+use crate::status::{Status, Which};
 use pn_fs::Sink;
+use pn_manifest::ManifestWhy;
 use pn_text::{DevFault, Edge};
 use std::alloc::{AllocError, Global};
 

@@ -6,7 +6,9 @@ use Rattle.pn_cmd.specs.Names.{package_name}
 use Rattle.pn_cmd.specs.Known.{project_of}
 use Rattle.pn_cmd.specs.Manifests.{Declares}
 use Rattle.pn_cmd.specs.Chain.{words_at, workspace_at, manifest_at, goal as goal_point}
-use Rattle.pn_cmd.proofs.PointLemmas.{first_refuses, second_refuses, on_err, kept, kept_none, kept_seen, unchanged}
+use Rattle.pn_text.proofs.Results.{if_err}
+use Rattle.pn_fs.proofs.SeenLemmas.{keeps_same, keeps_on}
+use Rattle.pn_cmd.proofs.PointLemmas.{first_refuses, second_refuses, kept, kept_none}
 use Rattle.pn_cmd.proofs.PassedLemmas.{ready_from}
 use Rattle.pn_cmd.proofs.check.check.Goals as goal
 
@@ -35,7 +37,7 @@ returns-in-Err-read_manifest-clause-refused g c out =
     second_refuses words_at (then workspace_at (then manifest_at goal_point)) i place old old new s (kept_none old)
     (record { value = tt; found = sym c.is_install.ensures ∙ c.if-not-is_install.false; is = refl })
     (second_refuses workspace_at (then manifest_at goal_point) place place old mid new s
-    (kept (p c.args.project.now) (p c.nothing_stands.new.project) registry registry out c.in_default.ensures.kept (unchanged registry))
+    (kept (p c.args.project.now) (p c.nothing_stands.new.project) registry registry out c.in_default.ensures.kept (keeps_same registry))
     (record { value = tt; found = c.in_default.ensures.passed; is = refl })
     (first_refuses manifest_at goal_point place mid new s (c.in-Err-read_manifest.ensures.refused registry out)))
 
@@ -51,14 +53,14 @@ returns-clause-refused g c out =
     let mid = world (p c.nothing_stands.new.project) registry out in
     let found = world (p c.read_manifest.new.project) registry out in
     let new = world (p c.check_goal.new.project) (r c.check_goal.new.registry) out in
-    on_err c.check_goal.result (λ s h.
+    if_err c.check_goal.result (λ s h.
     second_refuses words_at (then workspace_at (then manifest_at goal_point)) i place old old new s (kept_none old)
     (record { value = tt; found = sym c.is_install.ensures ∙ c.if-not-is_install.false; is = refl })
     (second_refuses workspace_at (then manifest_at goal_point) place place old mid new s
-    (kept (p c.args.project.now) (p c.nothing_stands.new.project) registry registry out c.in_default.ensures.kept (unchanged registry))
+    (kept (p c.args.project.now) (p c.nothing_stands.new.project) registry registry out c.in_default.ensures.kept (keeps_same registry))
     (record { value = tt; found = c.in_default.ensures.passed; is = refl })
     (second_refuses manifest_at goal_point place (project_of place own) mid found new s
-    (kept (p c.nothing_stands.new.project) (p c.read_manifest.new.project) registry registry out c.in-Ok.ensures.kept (unchanged registry))
+    (kept (p c.nothing_stands.new.project) (p c.read_manifest.new.project) registry registry out c.in-Ok.ensures.kept (keeps_same registry))
     (record { value = own; found = c.in-Ok.ensures.found; is = refl })
     h))) (c.check_goal.ensures.refused out)
 
@@ -68,6 +70,6 @@ returns-clause-ready g c =
     let registry = g.R.ReadFs.seen c.args.registry.now in
     let place = c.args.place.now in
     ready_from c.check_goal.result (inputs (map string_bytes c.args.words.now) place) (p c.args.project.now) (p c.read_manifest.new.project) registry (edges_by c.in-Ok.manifest)
-    (kept_seen (p c.args.project.now) (p c.nothing_stands.new.project) (p c.read_manifest.new.project) c.in_default.ensures.kept c.in-Ok.ensures.kept)
+    (keeps_on (p c.args.project.now) (p c.nothing_stands.new.project) (p c.read_manifest.new.project) c.in_default.ensures.kept c.in-Ok.ensures.kept)
     (sym c.is_install.ensures ∙ c.if-not-is_install.false) c.in_default.ensures.passed
     (subst (λ t. Declares t (package_name ∷ place) (edges_by c.in-Ok.manifest)) c.in_default.ensures.kept.tree c.in-Ok.ensures.found) c.check_goal.ensures.ready

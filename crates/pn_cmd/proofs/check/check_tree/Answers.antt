@@ -6,7 +6,8 @@ use Rattle.pn_cmd.specs.Points.{then, Refuses}
 use Rattle.pn_cmd.specs.Known.{graph_of, sources_of}
 use Rattle.pn_cmd.specs.Chain.{modules_at, listed_at, planned_at}
 use Rattle.pn_cmd.specs.Plans.{IsPlanned, TooLong}
-use Rattle.pn_cmd.proofs.PointLemmas.{first_refuses, second_refuses, kept, unchanged}
+use Rattle.pn_fs.proofs.SeenLemmas.{keeps_same}
+use Rattle.pn_cmd.proofs.PointLemmas.{first_refuses, second_refuses, kept}
 use Rattle.pn_cmd.proofs.check.check_tree.Goals as goal
 
 pub returns-in-Err-clause-refused : goal.returns-in-Err-clause-refused
@@ -26,7 +27,7 @@ returns-in-Err-packages-clause-refused g c out =
     let new = world (p c.nothing_stands.new.project) (r c.packages.new.registry) out in
     let s = c.in-Err-packages.status in
     second_refuses modules_at (then listed_at planned_at) k k old mid new s
-    (kept (p c.args.project.now) (p c.nothing_stands.new.project) (r c.args.registry.now) (r c.args.registry.now) out c.in-Ok.ensures.kept (unchanged (r c.args.registry.now)))
+    (kept (p c.args.project.now) (p c.nothing_stands.new.project) (r c.args.registry.now) (r c.args.registry.now) out c.in-Ok.ensures.kept (keeps_same (r c.args.registry.now)))
     (record { value = tt; found = c.in-Ok.ensures.passed; is = refl })
     (first_refuses listed_at planned_at k mid new s (c.in-Err-packages.ensures.refused (p c.nothing_stands.new.project) out))
 
@@ -62,9 +63,9 @@ returns-clause-refused g c out =
     let new = world (p c.nothing_stands.new.project) (r c.packages.new.registry) out in
     let s = c.in-Err-plan.status in
     second_refuses modules_at (then listed_at planned_at) k k old mid new s
-    (kept (p c.args.project.now) (p c.nothing_stands.new.project) (r c.args.registry.now) (r c.args.registry.now) out c.in-Ok.ensures.kept (unchanged (r c.args.registry.now)))
+    (kept (p c.args.project.now) (p c.nothing_stands.new.project) (r c.args.registry.now) (r c.args.registry.now) out c.in-Ok.ensures.kept (keeps_same (r c.args.registry.now)))
     (record { value = tt; found = c.in-Ok.ensures.passed; is = refl })
     (second_refuses listed_at planned_at k (sources_of place own met items) mid new new s
-    (kept (p c.nothing_stands.new.project) (p c.nothing_stands.new.project) (r c.args.registry.now) (r c.packages.new.registry) out (unchanged (p c.nothing_stands.new.project)) c.in-Ok-packages.ensures.kept)
+    (kept (p c.nothing_stands.new.project) (p c.nothing_stands.new.project) (r c.args.registry.now) (r c.packages.new.registry) out (keeps_same (p c.nothing_stands.new.project)) c.in-Ok-packages.ensures.kept)
     (record { value = items; found = c.in-Ok-packages.ensures.packages; is = refl })
     (subst (λ (l : List Package). Refuses (TooLong (sources_of place own met l)) new new s) c.as_slice.ensures.value (c.in-Err-plan.ensures.refused met new)))
