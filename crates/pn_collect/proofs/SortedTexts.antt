@@ -10,8 +10,7 @@ use Rattle.std.proofs.lemmas.List.Elements.{All-contains, All-from_recursion}
 use Rattle.std.proofs.lemmas.List.Sorted.{ranks_by, sorted_far}
 use Rattle.std.proofs.lemmas.Map.Text.{is_eq-slice_cmp}
 use Rattle.std.proofs.lemmas.Slice.Eq.{bytes_eq-Decides}
-use Rattle.pn_registry.proofs.Lists.{here, in_cons, none_in, there}
-use Rattle.pn_collect.proofs.Lists.{in_image}
+use Rattle.pn_text.proofs.Members.{here, in_cons, none_in, there, to_map}
 
 same_text : (x y : List ℕ) → slice_cmp nat_cmp x y ≡ Equal → x ≡ y
 same_text x y h = (bytes_eq-Decides x y).0 (sym (is_eq-slice_cmp x y) ∙ ap is_eq h)
@@ -62,7 +61,7 @@ module _ {A : Type 0} (key : A → List ℕ) where
   first_below : (x : A) (xs : List A) → IsStrictlySortedBy (slice_cmp nat_cmp) (map key (x ∷ xs)) → (y : A) → Contains xs y → slice_cmp nat_cmp (key x) (key y) ≡ Less
   unfolding IsStrictlySortedBy
   first_below x xs rising y c =
-      All-contains (λ k. slice_cmp nat_cmp (key x) k ≡ Less) (map key xs) (key y) (All-from_recursion (λ k. slice_cmp nat_cmp (key x) k ≡ Less) (map key xs) rising.0) (in_image key xs y c)
+      All-contains (λ k. slice_cmp nat_cmp (key x) k ≡ Less) (map key xs) (key y) (All-from_recursion (λ k. slice_cmp nat_cmp (key x) k ≡ Less) (map key xs) rising.0) (to_map key xs y c)
 
   rest : (x : A) (xs : List A) → IsStrictlySortedBy (slice_cmp nat_cmp) (map key (x ∷ xs)) → IsStrictlySortedBy (slice_cmp nat_cmp) (map key xs)
   unfolding IsStrictlySortedBy
