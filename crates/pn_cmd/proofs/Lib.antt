@@ -10,5 +10,6 @@ pub mod OrderLemmas
 pub mod PassedLemmas
 pub mod RegistryTexts
 pub mod SettledLemmas
+pub mod StandingLemmas
 pub mod TakenLemmas
 pub mod WrittenLemmas

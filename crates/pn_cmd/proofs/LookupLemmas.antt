@@ -23,14 +23,14 @@ use Rattle.pn_choice.specs.Reaches.{Reaches}
 use Rattle.pn_choice.specs.Walked.{IsReached}
 use Rattle.pn_choice.specs.declared.package.Package.{Package as Found}
 use Rattle.pn_choice.proofs.Least.{least}
-use Rattle.pn_choice.proofs.Sequences.{text_once}
+use Rattle.pn_registry.proofs.ManifestLawLemmas.{text_once}
 use Rattle.pn_layout.specs.declared.packages.Package.{Package}
 use Rattle.pn_layout.specs.Laws.{FindsAll, FindsOwn}
 use Rattle.pn_layout.specs.Layout.{plan_of}
 use Rattle.pn_layout.specs.Store.{home_of, store_of}
 use Rattle.pn_layout.specs.Sound.{called}
 use Rattle.pn_layout.proofs.Findings.{finds}
-use Rattle.pn_layout.proofs.Contents.{in_map, from_map}
+use Rattle.pn_text.proofs.Members.{from_map, to_map}
 use Rattle.pn_collect.specs.Outline.{Outline, outline, wanted}
 use Rattle.pn_collect.specs.Packages.{ArePackages}
 use Rattle.pn_cmd.specs.Names.{modules_path}
@@ -47,7 +47,7 @@ one_of : (r : Tree) (own : List Pair) (met : List Found) (packages : List Packag
 one_of r own met packages id value reached are reaches text =
     let q = from_map id_of met id ((least r own met reached).complete id reaches) in
     let found = All-contains (IsPackage (Some r)) met q.0 reached.walked.found q.1 in
-    let p = from_map outline packages (wanted q.0) (Contains-permutation (map wanted met) (map outline packages) (wanted q.0) are.exact (in_map wanted met q.0 q.1)) in
+    let p = from_map outline packages (wanted q.0) (Contains-permutation (map wanted met) (map outline packages) (wanted q.0) are.exact (to_map wanted met q.0 q.1)) in
     let value_is : found.value ≡ value = text_once (r (manifest_path id)) found.value value (subst (λ (i : Id). IsText (r (manifest_path i)) found.value) q.2 found.manifest.text) text in
     record {
       found = p.0;

@@ -3,9 +3,11 @@ use Rattle.std.specs.Prelude.{◌≡◌, ◌≢◌, ◌<◌, ◌≤◌, ℕ, len
 use Rattle.pn_text.specs.declared.limits.TheConstants.{PATH_LIMIT}
 use Rattle.pn_text.specs.Path.{Path, path_text}
 use Rattle.pn_fs.specs.Tree.{Tree}
+use Rattle.pn_fs.specs.declared.kind.Kind.{Kind}
+use Rattle.pn_fs.specs.declared.kind.Kind.TheVariants.{Absent}
 use Rattle.pn_cmd.specs.declared.status.Which.TheVariants.{Path as PathLength}
 use Rattle.pn_cmd.specs.declared.status.Status.{Status}
-use Rattle.pn_cmd.specs.declared.status.Status.TheVariants.{Limit, ProjectFault, NotYet}
+use Rattle.pn_cmd.specs.declared.status.Status.TheVariants.{Memory, Limit, ProjectFault, NotYet}
 use Rattle.pn_cmd.specs.World.{Shown}
 use Rattle.pn_cmd.specs.Points.{Point}
 
@@ -19,6 +21,12 @@ Stands p w (Limit PathLength n) = (n ≡ length (path_text p)) × (PATH_LIMIT < 
 Stands p w (NotYet text) = (text ≡ path_text p) × (length text ≤ PATH_LIMIT) × IfSome w.trees.project (λ t. t p ≢ None)
 Stands p w ProjectFault = length (path_text p) ≤ PATH_LIMIT
 Stands p w s = ⊥
+
+-- Something of this kind stands at the path, or there was no memory.
+abbrev pub IsStood : Path → Kind → Status → Type 0
+IsStood p k (NotYet text) = (text ≡ path_text p) × (length text ≤ PATH_LIMIT) × (k ≢ Absent)
+IsStood p k Memory = Unit {0}
+IsStood p k s = ⊥
 
 abbrev pub standing : Point Path (Unit {0})
 standing = record { Finds = λ p t u. NothingStands t.project p; Cause = Stands }

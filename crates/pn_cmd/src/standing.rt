@@ -4,7 +4,7 @@ ghost use Rattle.pn_text.specs.Path.{is_part};
 ghost use Rattle.pn_fs.specs.Seen.{Seen, Taken, Keeps};
 ghost use Rattle.pn_cmd.specs.World.{world};
 ghost use Rattle.pn_cmd.specs.Points.{Refuses};
-ghost use Rattle.pn_cmd.specs.Standing.{NothingStands, Stands};
+ghost use Rattle.pn_cmd.specs.Standing.{NothingStands, Stands, IsStood};
 
 use crate::entry::{EntryFault, entry};
 use crate::status::{Status, Which};
@@ -31,12 +31,23 @@ pub fn nothing_stands<P: ReadFs>(
         Err(EntryFault::Memory) => return Err(Status::Memory),
     };
     match project.kind(&path) {
-        Ok(Kind::Absent) => Ok(path),
-        Ok(_) => {
-            let text = Text::of(alloc, path.as_str())?;
-            Err(Status::NotYet(text))
-        }
+        Ok(kind) => free_path(alloc, path, kind),
         Err(DevFault::Failed) => Err(Status::ProjectFault),
         Err(DevFault::Memory) => Err(Status::Memory),
+    }
+}
+
+// The path, where this is what stands there: nothing.
+fn free_path(alloc: Global, path: AbsPath, kind: Kind) -> Result<AbsPath, Status>
+    ensures path { IfOk result (λ p. p ≡ path) }
+    ensures free { OnOk result (kind ≡ Kind.Absent) }
+    ensures stood { IfErr result (IsStood path kind) }
+{
+    if let Kind::Absent = kind {
+        return Ok(path);
+    }
+    match Text::of(alloc, path.as_str()) {
+        Ok(text) => Err(Status::NotYet(text)),
+        Err(_) => Err(Status::Memory),
     }
 }
