@@ -1,5 +1,5 @@
 -- The packages of an install are one list.
-use Rattle.std.proofs.Common.{◌≡◌, List, [], ◌∷◌, ◌++◌, map, Some, refl, sym, ap, ◌∙◌, subst, nat_cmp, IsPermutation}
+use Rattle.std.proofs.Common.{◌≡◌, List, [], ◌∷◌, ◌++◌, map, refl, sym, ap, ◌∙◌, subst, nat_cmp, IsPermutation}
 use Rattle.std.specs.Cmp.Lexicographic.{slice_cmp}
 use Rattle.std.specs.List.{Contains}
 use Rattle.std.specs.List.Sorted.{IsStrictlySortedBy}
@@ -11,7 +11,6 @@ use Rattle.pn_layout.specs.declared.packages.Package.{Package}
 use Rattle.pn_layout.specs.Sound.{Contents, contents}
 use Rattle.pn_collect.specs.Laws.{SameLaw}
 use Rattle.pn_collect.specs.Outline.{Outline, outline, wanted, AreFilesBelow, AreRising}
-use Rattle.pn_collect.specs.Packages.{ArePackages}
 use Rattle.pn_collect.proofs.SortedTexts.{one_list}
 use Rattle.pn_collect.proofs.Whole.{out_id, ids_made}
 

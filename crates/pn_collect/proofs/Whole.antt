@@ -18,7 +18,7 @@ use Rattle.pn_text.proofs.Members.{All-unmap, All-left, All-right, from_map}
 use Rattle.pn_fs.specs.Tree.{Tree}
 use Rattle.semver.specs.Parse.{Parts}
 use Rattle.pn_manifest.specs.Exact.{Id, is_exact, has_no_build}
-use Rattle.pn_manifest.specs.Fields.{or_else, first_wrong, name_of, version_of, dependencies_of, edges_of}
+use Rattle.pn_manifest.specs.Fields.{Spot, or_else, first_wrong, name_of, version_of, dependencies_of, edges_of}
 use Rattle.pn_manifest.specs.Pairs.{Pair, IsRising, is_own}
 use Rattle.pn_registry.specs.Package.{unless, other_of, first_wrong_of}
 use Rattle.pn_choice.specs.Edges.{id_of, target, targets, edge_of, edges_from, package_edges, edges_in, all_edges}
@@ -121,15 +121,15 @@ or_none : {A : Type 0} (a b : Option A) → or_else a b ≡ None → (a ≡ None
 or_none None b h = (refl, h)
 or_none (Some x) b h = absurd (cc h)
 
-unless_none : (b : Bool) (key : List ℕ) → unless b key ≡ None → b ≡ true
-unless_none true key h = refl
-unless_none false key h = absurd (cc h)
+first_passed : (b : Bool) (key : List ℕ) (o : Option Spot) → or_else (unless b key) o ≡ None → b ≡ true
+first_passed true key o h = refl
+first_passed false key o h = absurd (cc h)
 
 -- no edge leads to the package's own name
 not_own : (id : Id) (value : Data) (d : Pair) → first_wrong_of id value ≡ None → Contains (edges_of value) d → d.0 ≢ id_name id
 not_own id value d right c e =
     let other = (or_none (first_wrong value) (other_of id value) right).1 in
-    let own : is_own (name_of value) (id_name id) ≡ true = unless_none (is_own (name_of value) (id_name id)) (codes "name") (or_none (unless (is_own (name_of value) (id_name id)) (codes "name")) (unless (is_own (version_of value) (id_version id)) (codes "version")) other).0 in
+    let own : is_own (name_of value) (id_name id) ≡ true = first_passed (is_own (name_of value) (id_name id)) (codes "name") (unless (is_own (version_of value) (id_version id)) (codes "version")) other in
     let passes : not (is_own (name_of value) d.0) ≡ true = All-contains (λ (e : Pair). not (is_own (name_of value) e.0) ≡ true) (edges_of value) d (filter_passes (λ (e : Pair). not (is_own (name_of value) e.0)) (dependencies_of value)) c in
     let same : not (is_own (name_of value) d.0) ≡ false = ap (λ x. not (is_own (name_of value) x)) e ∙ ap not own in
     true_false (sym passes ∙ same)

@@ -1,6 +1,6 @@
 -- Lemmas on the calls of a file system that tells its tree.
 use Rattle.std.proofs.Common.{◌≡◌, ◌≢◌, ℕ, List, [], ◌∷◌, refl, sym, ap, ◌∙◌, subst, true, false, Some, None, Ok, Err, inl, inr, get_or}
-use Rattle.std.specs.Prelude.{Option, Result, IfOk, OnOk, OnErr, if◌then◌else◌}
+use Rattle.std.specs.Prelude.{Option, Result, OnOk, OnErr, if◌then◌else◌}
 use Rattle.pn_text.specs.declared.fault.DevFault.{DevFault}
 use Rattle.pn_text.specs.Path.{Path, same_path}
 use Rattle.pn_text.proofs.Paths.{same_path-Decides}

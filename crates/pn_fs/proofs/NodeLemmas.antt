@@ -1,6 +1,6 @@
 -- Lemmas on the tree that nodes show.
-use Rattle.std.proofs.Common.{◌≡◌, ◌≢◌, ℕ, List, [], ◌∷◌, refl, sym, ap, ◌∙◌, subst, ◌≤◌, length, Bool, true, false, Some, None, Ok, Err}
-use Rattle.std.specs.Prelude.{Option, String, Result, OnOk, OnErr, IsTrue, if◌then◌else◌}
+use Rattle.std.proofs.Common.{◌≡◌, ◌≢◌, ℕ, List, [], ◌∷◌, refl, sym, ap, ◌∙◌, subst, ◌≤◌, length, Bool, true, false, Some, None}
+use Rattle.std.specs.Prelude.{Option, String, IsTrue, if◌then◌else◌}
 use Rattle.std.specs.Option.{option_map}
 use Rattle.std.specs.Map.{update}
 use Rattle.std.specs.Str.{bytes_eq}

@@ -1,6 +1,6 @@
 -- Lemmas on a tree with something else at a path.
-use Rattle.std.proofs.Common.{◌≡◌, ℕ, List, [], ◌∷◌, refl, sym, ap, ◌∙◌, subst, Bool, true, false, Some, None, Ok, Err, ◌⊎◌, inl, inr, arith, length}
-use Rattle.std.specs.Prelude.{Option, Result, OnErr, IfSome, if◌then◌else◌}
+use Rattle.std.proofs.Common.{◌≡◌, ℕ, List, [], ◌∷◌, refl, sym, ap, ◌∙◌, subst, Bool, true, false, Some, None, Ok, Err, ◌⊎◌, inl, inr, length}
+use Rattle.std.specs.Prelude.{Option, Result, OnErr, if◌then◌else◌}
 use Rattle.std.specs.Option.{ForSome}
 use Rattle.pn_text.specs.declared.fault.DevFault.{DevFault}
 use Rattle.pn_fs.specs.declared.kind.Kind.TheVariants.{Absent, Folder, File, Link}

@@ -5,7 +5,7 @@ use Rattle.std.specs.Option.{ForSome}
 use Rattle.pn_text.specs.Causes.{Rose}
 use Rattle.pn_fs.specs.Tree.{Entry, file}
 use Rattle.pn_fs.specs.Seen.{Seen, Keeps, GaveNothing, GaveBytes, GaveNames, GaveAtMost}
-use Rattle.pn_text.proofs.Results.{for_some, if_some}
+use Rattle.pn_text.proofs.Results.{for_some}
 
 pub keeps_on : (a b c : Seen) → Keeps a b → Keeps b c → Keeps a c
 keeps_on a b c h k = record { tree = k.tree ∙ h.tree; touched = k.touched ∙ h.touched; later = omega (arith, h.later, k.later) }

@@ -4,7 +4,7 @@ use Rattle.std.specs.Prelude.{◌==◌, ◌&&◌, ◌||◌, ◌⊎◌, if◌then
 use Rattle.std.proofs.lemmas.Bool.{and_from, and_parts, cases_Bool, eqb-true, or_cases, or_left, or_right}
 use Rattle.std.proofs.lemmas.Bool.Decides.{nat_tests}
 use Rattle.pn_glob.specs.Gaps.{Rules, any_later, any_rest, first_and, is_end, matches}
-use Rattle.pn_glob.specs.Steps.{at_gap}
+use Rattle.pn_glob.specs.WhatIsLeft.{at_gap}
 
 pub or_false : (a b : Bool) → a ≡ false → (a || b) ≡ b
 or_false true b h = cc h

@@ -1,6 +1,6 @@
 -- What is taken off the ends of patterns, and lists of them.
 use Rattle.std.proofs.Common.{◌≡◌, ◌+◌, ◌-◌, ℕ, Bool, true, false, List, [], ◌∷◌, ◌++◌, length, map, Vec, Global, refl, sym, ap, subst, ◌∙◌, inl, inr, arith, append_assoc, append-nil, length-append}
-use Rattle.std.specs.Prelude.{◌==◌, ◌&&◌, ◌||◌, not, if◌then◌else◌}
+use Rattle.std.specs.Prelude.{◌==◌, ◌&&◌, ◌||◌, if◌then◌else◌}
 use Rattle.std.specs.List.{list_all, list_any}
 use Rattle.std.proofs.lemmas.Bool.{and_right, cases_Bool, not-false}
 use Rattle.pn_glob.specs.declared.fault.Bad.{Bad}
@@ -11,7 +11,7 @@ use Rattle.pn_glob.specs.declared.kind.Kind.TheVariants.{Paths, Names}
 use Rattle.pn_glob.specs.Bytes.{is_bracket}
 use Rattle.pn_glob.specs.Grammar.{HasBadByte, HasMany, IsOpen, Spells, is_plain}
 use Rattle.pn_glob.specs.Lists.{HasBracket, IsName, Met, ReadAll, Reads, Refused, before_slash, behind_bang, behind_dot, is_negative, or_star, tail_of, none, positive, negative}
-use Rattle.pn_glob.specs.ListSteps.{Added, IsBad, ReadBefore, fault_of}
+use Rattle.pn_glob.specs.ReadLists.{Added, IsBad, ReadBefore, fault_of}
 use Rattle.pn_glob.specs.Reading.{FrontOf, Stops, starts_with}
 use Rattle.pn_glob.specs.Matching.{fits}
 use Rattle.pn_glob.proofs.Braces.{items_of}

@@ -13,9 +13,9 @@ use Rattle.pn_glob.specs.Bytes.{is_bracket}
 use Rattle.pn_glob.specs.Grammar.{HasBadByte, is_plain}
 use Rattle.pn_glob.specs.Laws.{SettledLaw}
 use Rattle.pn_glob.specs.Lists.{HasBracket, IsBadAt, IsLarge, Met, ReadAll, Reads, Refused, before_slash, is_negative, moved, or_star, tail_of, none, positive, negative}
-use Rattle.pn_glob.specs.ListSteps.{fault_of}
+use Rattle.pn_glob.specs.ReadLists.{fault_of}
 use Rattle.pn_glob.specs.Matching.{Patterns}
-use Rattle.pn_glob.proofs.Turns.{Turn, out, within, stopped, many, start, turned, bad-turned, many-turned, open-turned, spells-turned}
+use Rattle.pn_glob.proofs.LeftToRight.{Turn, out, within, stopped, many, start, turned, bad-turned, many-turned, open-turned, spells-turned}
 
 -- what a pattern is read as, or why it isn't
 data Reading : Type 0 where

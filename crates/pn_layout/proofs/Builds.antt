@@ -1,12 +1,11 @@
 -- What is written by the plan of an install is its build.
 use Rattle.std.proofs.Common.{◌≡◌, ℕ, List, [], ◌∷◌, ◌++◌, refl, sym, ap, ◌∙◌, subst, true, false, append_assoc, Some, None}
-use Rattle.std.specs.Prelude.{Option, ◌||◌}
+use Rattle.std.specs.Prelude.{Option}
 use Rattle.std.specs.List.{Contains}
 use Rattle.pn_text.specs.Ids.{id_name}
-use Rattle.pn_text.specs.Path.{Path, same_path}
+use Rattle.pn_text.specs.Path.{Path}
 use Rattle.pn_text.specs.Name.{name_path}
-use Rattle.pn_text.proofs.Paths.{same_path-Decides}
-use Rattle.pn_text.proofs.Members.{from_map, in_one, here}
+use Rattle.pn_text.proofs.Members.{from_map, in_one}
 use Rattle.pn_fs.specs.Tree.{Entry, Tree}
 use Rattle.pn_node.specs.Plan.{Instance, TopLink, marker_name, beside, home, IsPlanned, marker, own, content, dependency, top, InBuild, managed, planned, between}
 use Rattle.pn_plan.specs.declared.planned.Planned.{Planned}

@@ -1,11 +1,10 @@
 -- The texts of links.
-use Rattle.std.proofs.Common.{◌≡◌, ◌≢◌, ℕ, List, [], ◌∷◌, ◌++◌, length, refl, sym, ap, ◌∙◌, subst, true, false, append_assoc, append-nil, inl, inr}
-use Rattle.std.specs.Prelude.{◌⊎◌, ◌==◌, if◌then◌else◌, codes}
+use Rattle.std.proofs.Common.{◌≡◌, ◌≢◌, ℕ, List, [], ◌∷◌, ◌++◌, length, refl, sym, ap, ◌∙◌, subst, true, false, append_assoc, inl, inr}
+use Rattle.std.specs.Prelude.{◌==◌, if◌then◌else◌, codes}
 use Rattle.std.proofs.lemmas.Bool.{eqb-true}
-use Rattle.std.proofs.lemmas.List.{append_cancel_right}
 use Rattle.pn_text.specs.Path.{Path, text_below}
 use Rattle.pn_text.specs.Name.{is_name_part, name_path, modules, IsName}
-use Rattle.pn_text.specs.Relative.{parent_of, dots, IsSteps, NoneShared, IsRelative}
+use Rattle.pn_text.specs.Relative.{parent_of, dots, NoneShared, IsRelative}
 use Rattle.pn_text.proofs.Joins.{text_below-append}
 use Rattle.pn_text.proofs.NameTexts.{name_of, name_text, name_cases, no_scope_in_part}
 use Rattle.pn_text.proofs.Relatives.{none_up, none_by_parts, steps_some}

@@ -1,5 +1,5 @@
 -- Paths below other ones.
-use Rattle.std.proofs.Common.{◌≡◌, ℕ, ◌⊎◌, inl, inr, List, [], ◌∷◌, ◌++◌, refl, sym, ap, ◌∙◌, subst, true, false, Bool}
+use Rattle.std.proofs.Common.{◌≡◌, ℕ, inl, inr, List, [], ◌∷◌, ◌++◌, refl, sym, ap, ◌∙◌, subst, true}
 use Rattle.std.specs.Prelude.{◌||◌}
 use Rattle.pn_text.specs.Path.{Path, same_path}
 use Rattle.pn_text.proofs.Paths.{same_path-Decides, same_path_refl}

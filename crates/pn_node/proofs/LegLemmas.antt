@@ -1,10 +1,8 @@
 -- Lemmas on the legs of a walk.
-use Rattle.std.proofs.Common.{◌≡◌, ℕ, ◌-◌, ◌<◌, List, [], ◌∷◌, ◌++◌, refl, sym, ap, ◌∙◌, Some, None, zero, suc, subst, arith}
-use Rattle.std.specs.Prelude.{Option, IfSome}
-use Rattle.std.specs.Option.{ForSome}
+use Rattle.std.proofs.Common.{◌≡◌, ℕ, ◌-◌, ◌<◌, List, [], ◌∷◌, ◌++◌, refl, sym, ap, ◌∙◌, Some, None, zero, suc, arith}
+use Rattle.std.specs.Prelude.{Option}
 use Rattle.pn_text.specs.Path.{Path}
 use Rattle.pn_fs.specs.Tree.{folder, file, link, Tree}
-use Rattle.pn_fs.specs.Seen.{Seen, Keeps}
 use Rattle.pn_node.specs.Find.{Step, into, at_entry, at_file, led, walk_on, walk}
 use Rattle.pn_node.specs.Steps.{step_of, steps_of}
 use Rattle.pn_node.specs.Legs.{Again, ends, goes, EndsAt, Goes, IsMet, met_goes, GoesFrom}

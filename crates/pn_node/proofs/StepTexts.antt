@@ -1,11 +1,9 @@
 -- Lemmas on the steps that texts stand for.
-use Rattle.std.proofs.Common.{◌≡◌, ◌≢◌, ℕ, ◌<◌, List, [], ◌∷◌, ◌++◌, length, get_or, take, drop, refl, sym, ap, ◌∙◌, true, false, Some, None, suc, arith, lit<}
-use Rattle.std.specs.Prelude.{Option, Result, Ok, Err, OnOk, ◌==◌, ◌||◌, not, IsTrue}
+use Rattle.std.proofs.Common.{◌≡◌, ℕ, List, [], ◌∷◌, ◌++◌, length, take, drop, refl, sym, ap, ◌∙◌, false, Some, None, lit<}
+use Rattle.std.specs.Prelude.{Option, ◌==◌, not, IsTrue}
 use Rattle.std.specs.Option.{MatchOption}
-use Rattle.std.specs.List.{list_any}
 use Rattle.std.specs.Str.{NoCharPasses}
 use Rattle.std.specs.Str.Pattern.{RFindsChar, SplitsAroundMatch}
-use Rattle.std.proofs.lemmas.Bool.{eqb-true}
 use Rattle.std.proofs.lemmas.List.{take-append-drop}
 use Rattle.std.proofs.lemmas.Str.Pattern.{NoCharPasses-char, drop_at_char}
 use denote.Ref.{Bor}

@@ -1,6 +1,6 @@
 -- Lemmas on relative paths as texts of links.
-use Rattle.std.proofs.Common.{◌≡◌, ◌≢◌, ℕ, List, [], ◌∷◌, ◌++◌, length, refl, sym, ap, ◌∙◌, subst, true, false, Bool, Some, None, zero, suc}
-use Rattle.std.specs.Prelude.{Option, if◌then◌else◌, ◌==◌, ◌&&◌, ◌||◌, IsTrue}
+use Rattle.std.proofs.Common.{◌≡◌, ◌≢◌, ℕ, List, [], ◌∷◌, ◌++◌, length, refl, sym, ap, ◌∙◌, subst, true, false, Some, None, zero, suc}
+use Rattle.std.specs.Prelude.{Option, if◌then◌else◌, ◌==◌, ◌&&◌, IsTrue}
 use Rattle.pn_text.specs.Path.{Path, is_path, is_part, is_flat, is_filled, text_below, parts_from, same_path}
 use Rattle.pn_text.proofs.Paths.{and_left, and_right, not_true, parts_from-append, parts_from-flat, same_path-Decides}
 use Rattle.pn_text.specs.Relative.{parent_of, above, dots, Leads, IsRelative}

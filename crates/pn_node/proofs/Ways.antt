@@ -1,13 +1,11 @@
 -- Each two paths have one relative path.
-use Rattle.std.proofs.Common.{◌≡◌, ℕ, ◌≤◌, List, [], ◌∷◌, ◌++◌, length, refl, sym, ap, ◌∙◌, true, false, zero, suc, append-nil, append_assoc, length-append, arith, subst, inl, inr}
-use Rattle.std.specs.Prelude.{◌⊎◌}
+use Rattle.std.proofs.Common.{◌≡◌, ℕ, ◌≤◌, List, [], ◌∷◌, ◌++◌, length, refl, sym, ap, ◌∙◌, true, false, zero, suc, append-nil, append_assoc, length-append, arith}
 use Rattle.std.specs.Str.{bytes_eq}
 use Rattle.std.proofs.lemmas.Slice.Eq.{bytes_eq-Decides}
-use Rattle.std.proofs.lemmas.List.{append_cancel_right}
 use Rattle.pn_text.specs.Path.{Path}
 use Rattle.pn_text.specs.Relative.{dots, IsSteps, NoneShared, IsRelative}
 use Rattle.pn_text.proofs.Joins.{below_begins}
-use Rattle.pn_text.proofs.Relatives.{none_up, none_down, none_by_parts, ends_nested, some_last, one_steps}
+use Rattle.pn_text.proofs.Relatives.{none_up, none_down, none_by_parts, some_last}
 
 -- The nearest folder above two paths.
 record Parts (from to : Path) : Type 0 where

@@ -1,5 +1,5 @@
 -- The laws of ranges.
-use Rattle.std.proofs.Common.{◌≡◌, ◌≢◌, ◌≤◌, ◌<◌, ◌+◌, ℕ, Bool, true, false, List, [], ◌∷◌, ◌++◌, length, refl, sym, ap, ◌∙◌, arith, inl, inr}
+use Rattle.std.proofs.Common.{◌≡◌, ◌≢◌, ◌≤◌, ◌<◌, ◌+◌, ℕ, Bool, true, false, List, [], ◌∷◌, length, refl, sym, ap, ◌∙◌, arith, inl, inr}
 use Rattle.std.specs.Prelude.{◌==◌, ◌&&◌, ◌||◌, ◌⊎◌, not}
 use Rattle.std.specs.List.{list_all, list_any}
 use Rattle.std.specs.Ordering.{is_ge, is_lt, nat_cmp, ordering_then}
@@ -12,7 +12,7 @@ use Rattle.std.proofs.Math.Bool.{or-false}
 use Rattle.semver.specs.Order.{pre_cmp}
 use Rattle.semver.specs.Parse.{Parts}
 use Rattle.pn_ranges.specs.declared.comparator.Sign.TheVariants as sign
-use Rattle.pn_ranges.specs.Limits.{Limit, is_release, meets, meets_all, names_pre, satisfies}
+use Rattle.pn_ranges.specs.Limits.{Limit, is_release, meets, meets_all, names_pre}
 use Rattle.pn_ranges.specs.Laws.{CaretLaw, HyphenLaw, IsNotBelow, KeepsLeftmost, NamesPre, PreLaw, UnionLaw}
 use Rattle.pn_ranges.specs.Table.{full, limits, at_least, before, caret_end}
 

@@ -19,7 +19,7 @@ use Rattle.pn_spec.specs.declared.fault.SpecFault.{SpecFault}
 use Rattle.pn_spec.specs.declared.fault.SpecFault.TheVariants.{Unsupported, Memory}
 use Rattle.pn_spec.specs.Refusals.{FitsNoWant, FitsNoWsWant, FitsNoWorkspace, FitsNoAlias, FitsNoForm, Refuses}
 use Rattle.pn_spec.specs.Tags.{is_letter, is_tag, is_catalog}
-use Rattle.pn_spec.specs.Texts.{HasNoPart, IsParted, has_at}
+use Rattle.pn_spec.specs.SpecTexts.{HasNoPart, IsParted, has_at}
 
 none-at : (t : List ℕ) → ((i : ℕ) → i < length t → get_or t i 0 ≢ 64) → has_at t ≡ false
 none-at [] h = refl

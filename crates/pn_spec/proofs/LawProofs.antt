@@ -12,7 +12,7 @@ use Rattle.pn_spec.specs.Forms.{IsForm}
 use Rattle.pn_spec.specs.Laws.{Form, FormLaw, SpaceLaw, form_of, workspace, catalog, alias, bare}
 use Rattle.pn_spec.specs.Ranges.{has_foreign}
 use Rattle.pn_spec.specs.Tags.{is_tag}
-use Rattle.pn_spec.specs.Texts.{before_trimmed, trim_end, trimmed}
+use Rattle.pn_spec.specs.SpecTexts.{before_trimmed, trim_end, trimmed}
 use Rattle.pn_spec.proofs.Foreign.{foreign}
 
 -- spaces at both ends

@@ -1,6 +1,6 @@
 -- A text names one project, and one package.
-use Rattle.std.proofs.Common.{◌≡◌, ◌≢◌, ℕ, Bool, true, false, List, [], ◌∷◌, ◌++◌, Option, Some, None, refl, sym, ap, ◌∙◌, inl, inr}
-use Rattle.std.specs.Prelude.{◌==◌, ◌||◌}
+use Rattle.std.proofs.Common.{◌≡◌, ◌≢◌, ℕ, true, false, List, [], ◌∷◌, ◌++◌, Option, Some, None, refl, sym, ap, ◌∙◌, inl, inr}
+use Rattle.std.specs.Prelude.{◌==◌}
 use Rattle.std.proofs.lemmas.Bool.{or_parts}
 use Rattle.pn_text.specs.Name.{is_name}
 use Rattle.pn_spec.specs.declared.want.Want.{Want}
@@ -10,7 +10,7 @@ use Rattle.pn_spec.specs.declared.workspace.WsWant.TheVariants as ws
 use Rattle.pn_spec.specs.Forms.{IsNamed, IsWant, IsWsWant}
 use Rattle.pn_spec.specs.Laws.{NameLaw, ProjectLaw}
 use Rattle.pn_spec.specs.Ranges.{has_foreign, is_foreign}
-use Rattle.pn_spec.specs.Texts.{has_at}
+use Rattle.pn_spec.specs.SpecTexts.{has_at}
 use Rattle.pn_spec.proofs.Ats.{at-once, last-at, name-not, tag-no-at}
 use Rattle.pn_spec.proofs.Foreign.{foreign}
 

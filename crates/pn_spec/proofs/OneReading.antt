@@ -1,5 +1,5 @@
 -- A text has one reading, and none where it is refused.
-use Rattle.std.proofs.Common.{◌≡◌, ℕ, Bool, true, false, List, [], ◌∷◌, Option, Some, None, refl, sym, ap, subst, ◌∙◌, inl, inr, codes}
+use Rattle.std.proofs.Common.{◌≡◌, ℕ, true, false, List, [], ◌∷◌, Option, Some, None, refl, sym, ap, subst, ◌∙◌, inl, inr, codes}
 use Rattle.std.specs.Prelude.{◌==◌}
 use Rattle.std.proofs.lemmas.Bool.{both_ways, eqb-false}
 use Rattle.pn_ranges.specs.declared.fault.Stop.TheVariants as stop
@@ -21,7 +21,7 @@ use Rattle.pn_spec.specs.Forms.{IsAlias, IsForm, IsNamed, IsSpec, IsWant, IsWork
 use Rattle.pn_spec.specs.Laws.{Form, workspace, catalog, alias, bare, form_of}
 use Rattle.pn_spec.specs.ReadingLaw.{ReadingLaw}
 use Rattle.pn_spec.specs.Refusals.{FitsNoAlias, FitsNoForm, FitsNoWant, FitsNoWorkspace, FitsNoWsWant}
-use Rattle.pn_spec.specs.Texts.{trimmed}
+use Rattle.pn_spec.specs.SpecTexts.{trimmed}
 use Rattle.pn_spec.proofs.LawProofs.{form}
 use Rattle.pn_spec.proofs.Named.{bare-front, name, one-parts, project, want-no-at, ws-no-at}
 

@@ -1,6 +1,13 @@
 //! A form after YAML 1.2, read: block maps and lists, flow values on one line, quoted and plain scalars.
 //!
-//! What bytes say is a definition, `says`: data, or the first line at fault. `read` answers exactly that.
+//! What bytes say is a definition, `says`: data, or the first line at fault. `read` answers exactly that. Contracts see a
+//! node as its data, by `view`. `pn_yaml_print` prints it.
+//!
+//!     if let Node::Map(members) = read(alloc, bytes)? {
+//!         for (key, value) in members.as_slice() { .. }
+//!     }
+//!
+//! Bytes are parted into lines first; each reader takes the lines that are left and gives a value and the rest.
 #![tactic(auto)]
 
 mod block;

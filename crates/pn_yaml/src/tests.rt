@@ -18,7 +18,10 @@ const FAULTS: [(&str, YamlFault); 36] = [
     ("a: 'b' c\n", YamlFault::Line(1, Why::Quote)),
     ("a: 'b\n", YamlFault::Line(1, Why::Quote)),
     ("a: \"b\n", YamlFault::Line(1, Why::Quote)),
-    ("a:\n- 1\n- x: 2\n\n# c\nb: \"\\z\"\n", YamlFault::Line(6, Why::Escape)),
+    (
+        "a:\n- 1\n- x: 2\n\n# c\nb: \"\\z\"\n",
+        YamlFault::Line(6, Why::Escape),
+    ),
     ("a: \"\\ud800\"", YamlFault::Line(1, Why::Escape)),
     ("a: \"\\x4", YamlFault::Line(1, Why::Escape)),
     ("\n\na: {b: 1\n", YamlFault::Line(3, Why::Flow)),
@@ -38,8 +41,14 @@ const FAULTS: [(&str, YamlFault); 36] = [
     ("a: &x 1", YamlFault::Line(1, Why::LeftOut)),
     ("a: 1\n---\n", YamlFault::Line(2, Why::LeftOut)),
     ("... # x", YamlFault::Line(1, Why::LeftOut)),
-    ("a: [[[[[[[[[[[[[[[[[[[[[[[[[[[[[[[[[[[[[[[[[[[[[[[[[[[[[[[[[[[[[[[x]]]]]]]]]]]]]]]]]]]]]]]]]]]]]]]]]]]]]]]]]]]]]]]]]]]]]]]]]]]]]]]", YamlFault::TooDeep),
-    ("a:\n b:\n  c: [[[[[[[[[[[[[[[[[[[[[[[[[[[[[[[[[[[[[[[[[[[[[[[[[[[[[[[[[[[[[x]]]]]]]]]]]]]]]]]]]]]]]]]]]]]]]]]]]]]]]]]]]]]]]]]]]]]]]]]]]]]", YamlFault::TooDeep),
+    (
+        "a: [[[[[[[[[[[[[[[[[[[[[[[[[[[[[[[[[[[[[[[[[[[[[[[[[[[[[[[[[[[[[[[x]]]]]]]]]]]]]]]]]]]]]]]]]]]]]]]]]]]]]]]]]]]]]]]]]]]]]]]]]]]]]]]",
+        YamlFault::TooDeep,
+    ),
+    (
+        "a:\n b:\n  c: [[[[[[[[[[[[[[[[[[[[[[[[[[[[[[[[[[[[[[[[[[[[[[[[[[[[[[[[[[[[[x]]]]]]]]]]]]]]]]]]]]]]]]]]]]]]]]]]]]]]]]]]]]]]]]]]]]]]]]]]]]]",
+        YamlFault::TooDeep,
+    ),
 ];
 
 fn fault(alloc: Global, text: &str) -> Option<YamlFault> {

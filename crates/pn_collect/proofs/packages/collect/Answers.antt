@@ -7,7 +7,7 @@ use Rattle.pn_manifest.proofs.Rising.{rising_but_own}
 use Rattle.pn_choice.specs.Edges.{edges_by, id_of}
 use Rattle.pn_choice.specs.Found.{IsPackage}
 use Rattle.pn_choice.specs.declared.package.Package.{Package as Found}
-use Rattle.pn_collect.specs.CollectFaults.{CollectRefuses, IsFirstRefused}
+use Rattle.pn_collect.specs.CollectFaults.{IsFirstRefused}
 use Rattle.pn_collect.proofs.Whole.{packages_of}
 use Rattle.pn_text.proofs.Results.{if_err}
 use Rattle.pn_collect.proofs.Causes.{refuses_by}

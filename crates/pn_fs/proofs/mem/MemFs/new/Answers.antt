@@ -1,4 +1,3 @@
-use Rattle.std.proofs.Common.{◌≡◌}
 use Rattle.pn_fs.proofs.mem.MemFs.new.Goals as goal
 
 pub returns-clause-seen : goal.returns-clause-seen

@@ -7,7 +7,7 @@ use Rattle.pn_glob.specs.declared.kind.Kind.TheVariants.{Paths}
 use Rattle.pn_glob.specs.Bytes.{is_hidden, onto, parts}
 use Rattle.pn_glob.specs.Gaps.{matches}
 use Rattle.pn_glob.specs.Matching.{byte_rules, part_rules}
-use Rattle.pn_glob.specs.Steps.{parts_behind}
+use Rattle.pn_glob.specs.WhatIsLeft.{parts_behind}
 use Rattle.pn_glob.proofs.Gaps.{Steady, eq-true, or_false}
 
 abbrev pub is_flat : List ℕ → Type 0

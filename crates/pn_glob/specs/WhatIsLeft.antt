@@ -1,4 +1,4 @@
--- Words for the steps of the matcher and of the reader.
+-- What is left of pattern and text for the matcher, and of the parts of a text.
 use Rattle.std.specs.Prelude.{ℕ, Bool, List, [], ◌∷◌, Some, None}
 use Rattle.pn_glob.specs.declared.parts.Parts.{Parts}
 use Rattle.pn_glob.specs.Bytes.{parts}

@@ -1,4 +1,4 @@
--- Words for the steps of reading lists.
+-- Lists of patterns as they are read, one pattern after another.
 use Rattle.std.specs.Prelude.{◌≡◌, ℕ, List, ◌++◌, length, if◌then◌else◌}
 use Rattle.pn_glob.specs.declared.fault.Bad.{Bad}
 use Rattle.pn_glob.specs.declared.fault.Bad.TheVariants as bad
