@@ -204,6 +204,7 @@ one_tree t u v top plan managed a b f g q = elim (is_within top q) as (λ w. is_
   where
     here : Contains plan.managed top
     here = subst (λ (l : List Path). Contains l top) (sym managed) (0, omega arith, refl)
+
     built_at : (x : Path) → u (x ++ top) ≡ v (x ++ top)
     built_at x = elim (u (x ++ top)) as (λ o. u (x ++ top) ≡ o → o ≡ v (x ++ top)) [
       | Some e ↦ λ is. sym (b.all (x ++ top) e (a.only top x e here is))

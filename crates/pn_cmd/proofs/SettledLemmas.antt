@@ -32,9 +32,11 @@ then_settled w R S T p q a b = record {
     apart : (x z : _) (y : _) (s : Status) → R x z → (then p q).Finds x w.trees y → (then p q).Cause z w s → IsFree s
     apart x z y s r f (inl c) = a.apart x z f.value s r f.first c
     apart x z y s r f (inr c) = b.apart f.value c.0 y s (a.finds x z f.value c.0 r f.first c.1) f.rest c.2
+
     other : (x z : _) (y : _) (s : Status) → R x z → (then p q).Cause x w s → (then p q).Finds z w.trees y → IsFree s
     other x z y s r (inl c) f = a.other x z f.value s r c f.first
     other x z y s r (inr c) f = b.other c.0 f.value y s (a.finds x z c.0 f.value r c.1 f.first) c.2 f.rest
+
     cause : (x z : _) (s v : Status) → R x z → (then p q).Cause x w s → (then p q).Cause z w v → IsOwn s → IsOwn v → s ≡ v
     cause x z s v r (inl c) (inl d) o u = a.cause x z s v r c d o u
     cause x z s v r (inl c) (inr d) o u = own_free s o (a.other x z d.0 s r c d.1)

@@ -75,8 +75,20 @@ const REFUSALS: [(&str, &str, &str, u8, &str); 19] = [
         30,
         "not yet: /w/node_modules",
     ),
-    ("install", "/w/x x", "", 3, "manifest: /w/package.json: missing"),
-    ("install", PROJECT, A, 6, "no version: a@1.0.0 needs b@1.0.0"),
+    (
+        "install",
+        "/w/x x",
+        "",
+        3,
+        "manifest: /w/package.json: missing",
+    ),
+    (
+        "install",
+        PROJECT,
+        A,
+        6,
+        "no version: a@1.0.0 needs b@1.0.0",
+    ),
     (
         "install",
         PROJECT,

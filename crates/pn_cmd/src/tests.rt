@@ -47,7 +47,15 @@ fn projects_are_installed(rt: HostRuntime) -> Result<(), Fail> {
         ),
         (".pnpm/b@1.0.0/node_modules/b/index.js", "second"),
     ];
-    assert!(rt; is_installed(alloc, PROJECT, registry.as_str(), report, entries.as_slice())?);
+    assert!(rt;
+        is_installed(
+            alloc,
+            PROJECT,
+            registry.as_str(),
+            report,
+            entries.as_slice()
+        )?
+    );
     let project = r#"/w/package.json {"dependencies":{"@s/a":"1.0.0"}}"#;
     let entries = [
         ("@s/a", "to ../.pnpm/@s+a@1.0.0/node_modules/@s/a"),
