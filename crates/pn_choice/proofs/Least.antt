@@ -1,5 +1,5 @@
 -- The packages that were met are the least set that is closed under dependencies.
-use Rattle.std.proofs.Common.{◌≡◌, ◌≤◌, ◌<◌, ℕ, suc, zero, List, [], ◌∷◌, ◌++◌, true, false, not, cond, Option, Some, length, map, take, get_or, refl, sym, ap, ◌∙◌, subst, arith, codes, add-one}
+use Rattle.std.proofs.Common.{◌≡◌, ◌≤◌, ◌<◌, ℕ, suc, zero, List, [], ◌∷◌, true, false, not, cond, Option, Some, length, map, take, get_or, refl, sym, ap, ◌∙◌, subst, arith, codes, add-one}
 use Rattle.std.specs.List.{All, Contains}
 use Rattle.std.proofs.lemmas.List.{take_all}
 use Rattle.std.proofs.lemmas.List.Elements.{All-nil, All-cons, All-head, All-tail, All-append, All-weaker, All-map, All-contains, All-contains_itself, All-filter, All-get_or, All-more, All-take, filter_passes, Contains-append_right}

@@ -1,5 +1,5 @@
 -- An edge has one cause to be refused, and none where it leads to a right package.
-use Rattle.std.proofs.Common.{◌≡◌, ◌≤◌, ◌<◌, ◌+◌, ℕ, List, Bool, false, true, Option, Some, None, length, map, refl, sym, ap, ◌∙◌, subst, arith, inl, inr}
+use Rattle.std.proofs.Common.{◌≡◌, ◌≤◌, ◌+◌, ℕ, List, false, true, Option, Some, None, length, map, sym, ap, ◌∙◌, subst, arith, inl, inr}
 use Rattle.std.specs.List.{All}
 use Rattle.std.proofs.lemmas.List.Elements.{All-map, All-weaker}
 use Rattle.serde_json.specs.Data.{Data}
@@ -11,9 +11,8 @@ use Rattle.pn_manifest.specs.Exact.{Id, is_exact}
 use Rattle.pn_manifest.specs.Fields.{first_later}
 use Rattle.pn_manifest.specs.declared.fault.ManifestWhy.{ManifestWhy}
 use Rattle.pn_registry.specs.Places.{manifest_path}
-use Rattle.pn_registry.specs.Package.{first_wrong_of}
 use Rattle.pn_choice.specs.Edges.{id_of, target}
-use Rattle.pn_choice.specs.Found.{HasFolder, HasManifest, IsPackage, IsNoManifest, NoPackage, NotBuilt}
+use Rattle.pn_choice.specs.Found.{HasManifest, IsPackage, IsNoManifest, NoPackage, NotBuilt}
 use Rattle.pn_choice.specs.Refusals.{IsFull, EdgeRefused}
 use Rattle.pn_choice.specs.Walked.{package_limit}
 use Rattle.pn_choice.specs.declared.package.Package.{Package}

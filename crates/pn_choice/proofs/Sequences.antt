@@ -1,9 +1,8 @@
 -- Packages in the order in which they are met.
-use Rattle.std.proofs.Common.{◌≡◌, ◌≤◌, ◌<◌, ℕ, suc, zero, List, [], ◌∷◌, ◌++◌, Option, Some, length, map, take, drop, get_or, refl, sym, ap, ◌∙◌, subst, arith, add-one}
+use Rattle.std.proofs.Common.{◌≡◌, ◌≤◌, ◌<◌, ℕ, suc, zero, List, [], ◌∷◌, ◌++◌, Some, length, map, take, drop, get_or, refl, sym, ap, ◌∙◌, subst, arith, add-one}
 use Rattle.std.specs.List.{All}
 use Rattle.std.proofs.lemmas.List.{map-append, append-nil, take_all, take-append-drop, take_more_same, get_or-map, length-map}
 use Rattle.std.proofs.lemmas.List.Elements.{All-get_or}
-use Rattle.serde_json.specs.Data.{Data}
 use Rattle.pn_text.specs.declared.ids.Edge.{Edge}
 use Rattle.pn_fs.specs.Tree.{Tree}
 use Rattle.pn_manifest.specs.Exact.{Id}

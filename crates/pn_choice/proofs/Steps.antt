@@ -1,5 +1,5 @@
 -- Causes at one state of the registry, and at an earlier one.
-use Rattle.std.proofs.Common.{◌≤◌, ℕ, List, Option, Some, None, Result, Ok, Err, IfErr, IfOk, OnOk, IfSome, length, refl, sym, ap, ◌∙◌, subst, arith}
+use Rattle.std.proofs.Common.{◌≤◌, ℕ, List, Option, Some, None, IfSome, length, sym, ap, ◌∙◌, subst, arith}
 use Rattle.serde_json.specs.Data.{Data}
 use Rattle.pn_text.specs.Ids.{id_version}
 use Rattle.pn_text.specs.declared.limits.TheConstants.{ID_LIMIT}

@@ -7,6 +7,7 @@ use Rattle.std.proofs.lemmas.List.{map-append}
 use Rattle.std.proofs.lemmas.List.Elements.{All-contains, Contains-append_cases, Contains-append_right}
 use Rattle.std.proofs.lemmas.List.Sorted.{Contains-permutation, IsPermutation-sym}
 use Rattle.pn_text.specs.Path.{Path}
+use Rattle.pn_text.proofs.Members.{here, in_cons, to_map}
 use Rattle.pn_fs.specs.Tree.{Tree, IsTree}
 use Rattle.pn_manifest.specs.Exact.{Id}
 use Rattle.pn_registry.specs.FilesFaults.{FilesCause}
@@ -14,9 +15,7 @@ use Rattle.pn_registry.specs.Places.{package_folder}
 use Rattle.pn_registry.specs.declared.contents.FilesFault.{FilesFault}
 use Rattle.pn_registry.specs.declared.contents.FilesFault.TheVariants.{Modules as FileModules, TooLarge as FileTooLarge, Entries as FileEntries, Fault as FileFault, Memory as FileMemory}
 use Rattle.pn_registry.proofs.FilesLawLemmas as files
-use Rattle.pn_registry.proofs.Lists.{in_cons, here}
-use Rattle.pn_choice.specs.Edges.{package_text}
-use Rattle.pn_choice.specs.Found.{IsPackage}
+use Rattle.pn_choice.specs.Edges.{id_of}
 use Rattle.pn_choice.specs.declared.package.Package.{Package as Found}
 use Rattle.pn_layout.specs.declared.packages.Package.{Package}
 use Rattle.pn_collect.specs.CollectFaults.{NoFiles, HasPassed, IsFirstRefused}
@@ -24,16 +23,14 @@ use Rattle.pn_collect.specs.Laws.{CauseLaw}
 use Rattle.pn_collect.specs.Outline.{Outline, AreFilesBelow}
 use Rattle.pn_collect.specs.declared.fault.CollectFault.{CollectFault}
 use Rattle.pn_collect.specs.declared.fault.CollectFault.TheVariants.{Modules, TooLarge, Entries, Fault, Memory}
-use Rattle.pn_collect.proofs.Ids.{one_id}
-use Rattle.pn_collect.proofs.Lists.{in_image}
 use Rattle.pn_collect.proofs.Passed.{has_files}
 use Rattle.pn_collect.proofs.SortedTexts.{not_before, one_text, sorted_rest}
 
 -- in a sorted list no later package comes before an earlier one
-not_before_at : (before : List Found) (at q : Found) (rest : List Found) → IsSorted (slice_cmp nat_cmp) (map package_text (before ++ at ∷ rest)) → Contains rest q → is_lt (slice_cmp nat_cmp (package_text q) (package_text at)) ≡ false
+not_before_at : (before : List Found) (at q : Found) (rest : List Found) → IsSorted (slice_cmp nat_cmp) (map id_of (before ++ at ∷ rest)) → Contains rest q → is_lt (slice_cmp nat_cmp (id_of q) (id_of at)) ≡ false
 not_before_at before at q rest sorted c =
-    not_before (package_text at) (map package_text rest) (package_text q)
-    (sorted_rest (map package_text before) (map package_text (at ∷ rest)) (subst (IsSorted (slice_cmp nat_cmp)) (map-append package_text before (at ∷ rest)) sorted)) (in_image package_text rest q c)
+    not_before (id_of at) (map id_of rest) (id_of q)
+    (sorted_rest (map id_of before) (map id_of (at ∷ rest)) (subst (IsSorted (slice_cmp nat_cmp)) (map-append id_of before (at ∷ rest)) sorted)) (to_map id_of rest q c)
 
 -- what the registry's cause is told as
 told : Path → FilesFault → CollectFault
@@ -67,7 +64,7 @@ not_refused t q why h cause =
 
 -- another package that is refused stands at the first one or after it
 after_first : (t : Tree) (met : List Found) (why other : CollectFault) (a : IsFirstRefused met (Some t) why) (q : Found) → Contains met q → NoFiles (Some t) q.id other
-    → (a.at ≡ q) ⊎ (is_lt (slice_cmp nat_cmp (package_text q) (package_text a.at)) ≡ false)
+    → (a.at ≡ q) ⊎ (is_lt (slice_cmp nat_cmp (id_of q) (id_of a.at)) ≡ false)
 after_first t met why other a q c cause =
     elim (Contains-append_cases a.before (a.at ∷ a.rest) q (Contains-permutation met (a.before ++ a.at ∷ a.rest) q a.all c)) [
       | inl i ↦ absurd (not_refused t q other (All-contains (HasPassed (Some t)) a.before q a.passed i) cause)
@@ -81,14 +78,11 @@ among t met why a =
 
 pub cause : CauseLaw
 cause t own met why other tree reached a b =
-    let exact = λ (q : Found) (c : Contains met q). (All-contains (IsPackage (Some t)) met q reached.walked.found c).exact in
-    let x = among t met why a in
-    let y = among t met other b in
-    let same : a.at.id ≡ b.at.id = elim (after_first t met why other a b.at y b.refused) [
+    let same : a.at.id ≡ b.at.id = elim (after_first t met why other a b.at (among t met other b) b.refused) [
       | inl e ↦ ap (λ (q : Found). q.id) e
-      | inr up ↦ elim (after_first t met other why b a.at x a.refused) [
+      | inr up ↦ elim (after_first t met other why b a.at (among t met why a) a.refused) [
         | inl e ↦ ap (λ (q : Found). q.id) (sym e)
-        | inr down ↦ one_id a.at.id b.at.id (exact a.at x) (exact b.at y) (one_text (package_text a.at) (package_text b.at) down up)
+        | inr down ↦ one_text a.at.id b.at.id down up
       ]
     ] in
     one_cause t tree a.at.id why other a.refused (subst (λ (id : Id). NoFiles (Some t) id other) (sym same) b.refused)

@@ -1,15 +1,16 @@
 -- Why packages are refused.
-use Rattle.std.proofs.Common.{◌≡◌, ◌<◌, ◌≤◌, ℕ, List, Option, Some, None, Result, Ok, Err, IfOk, IfErr, IfSome, length, get_or, sym, subst, arith}
+use Rattle.std.proofs.Common.{◌≡◌, ◌<◌, ◌≤◌, ℕ, List, Option, Some, None, IfSome, true, length, get_or, sym, subst, arith}
 use Rattle.std.specs.List.{All}
 use Rattle.std.proofs.lemmas.List.Elements.{All-get_or}
+use Rattle.pn_text.specs.declared.limits.TheConstants.{ID_LIMIT}
+use Rattle.pn_text.specs.Ids.{id_version}
 use Rattle.pn_text.specs.Path.{Path}
 use Rattle.pn_fs.specs.Seen.{Seen, Keeps}
 use Rattle.pn_fs.specs.Tree.{Tree}
-use Rattle.pn_manifest.specs.Exact.{Id}
+use Rattle.pn_manifest.specs.Exact.{Id, is_exact}
 use Rattle.pn_registry.specs.FilesFaults.{FilesRefused}
 use Rattle.pn_registry.specs.Places.{package_folder}
 use Rattle.pn_registry.specs.declared.contents.FilesFault.TheVariants.{Modules as FileModules}
-use Rattle.pn_choice.specs.Edges.{id_text}
 use Rattle.pn_choice.specs.Found.{IsPackage, HasFolder}
 use Rattle.pn_choice.specs.declared.package.Package.{Package as Found}
 use Rattle.pn_collect.specs.CollectFaults.{NoFiles, CollectRefuses, NamesModules}
@@ -24,14 +25,6 @@ if_all P Q (Some t) f h = f t h
 pub if_both : {T : Type 0} (P Q S : T → Type 0) (o o' : Option T) → o' ≡ o → ((t : T) → P t → Q t → S t) → IfSome o P → IfSome o' Q → IfSome o S
 if_both P Q S None o' e f h k = tt
 if_both {T} P Q S (Some t) o' e f h k = let here : Q t = subst (λ (r : Option T). IfSome r Q) e k in f t h here
-
-pub if_ok : {T E : Type 0} (P Q : T → Type 0) (r : Result T E) → ((v : T) → P v → Q v) → IfOk r P → IfOk r Q
-if_ok P Q (Ok v) f h = f v h
-if_ok P Q (Err e) f h = tt
-
-pub if_err : {T E : Type 0} (P Q : E → Type 0) (r : Result T E) → ((e : E) → P e → Q e) → IfErr r P → IfErr r Q
-if_err P Q (Ok v) f h = tt
-if_err P Q (Err e) f h = f e h
 
 -- the file with a part `node_modules`, by its path in the registry
 pub named : (id : Id) (old new : Seen) (q : Path) (fault : CollectFault) → FilesRefused (package_folder id) old new (FileModules q) → NamesModules (package_folder id) q fault → CollectRefuses (λ r. NoFiles r id) old new fault
@@ -61,8 +54,14 @@ folder_at r now found k p all within is same =
     let here : IsPackage r p = subst (IsPackage r) (sym is) (All-get_or (IsPackage r) found k p within all) in
     subst (λ (o : Option Tree). HasFolder o p.id) (sym same) here.manifest.stands
 
+-- its version is exact
+pub exact_at : (r : Option Tree) (found : List Found) (k : ℕ) (p : Found) → All (IsPackage r) found → k < length found → p ≡ get_or found k p → is_exact (id_version p.id) ≡ true
+exact_at r found k p all within is =
+    let here : IsPackage r p = subst (IsPackage r) (sym is) (All-get_or (IsPackage r) found k p within all) in
+    here.exact
+
 -- its id isn't too long
-pub short_at : (r : Option Tree) (found : List Found) (k : ℕ) (p : Found) → All (IsPackage r) found → k < length found → p ≡ get_or found k p → length (id_text p.id) ≤ 120
+pub short_at : (r : Option Tree) (found : List Found) (k : ℕ) (p : Found) → All (IsPackage r) found → k < length found → p ≡ get_or found k p → length p.id ≤ ID_LIMIT
 short_at r found k p all within is =
     let here : IsPackage r p = subst (IsPackage r) (sym is) (All-get_or (IsPackage r) found k p within all) in
     here.short

@@ -4,8 +4,10 @@ use Rattle.std.specs.Cmp.Lexicographic.{slice_cmp}
 use Rattle.std.specs.List.{All, Contains}
 use Rattle.std.specs.List.Sorted.{IsStrictlySortedBy}
 use Rattle.std.proofs.lemmas.List.Elements.{All-contains}
+use Rattle.pn_text.specs.declared.limits.TheConstants.{PATH_LIMIT}
 use Rattle.pn_text.specs.Path.{Path, path_text, text_below, SpellsParts}
 use Rattle.pn_text.specs.Name.{holds_modules}
+use Rattle.pn_text.proofs.Members.{from_map, to_map}
 use Rattle.pn_fs.specs.Tree.{Tree}
 use Rattle.pn_registry.specs.Files.{File, IsFilesOf, IsClean, IsRising, IsShortBelow}
 use Rattle.pn_manifest.specs.Exact.{Id}
@@ -16,7 +18,6 @@ use Rattle.pn_registry.specs.Places.{package_folder}
 use Rattle.pn_choice.specs.declared.package.Package.{Package as Found}
 use Rattle.pn_layout.specs.declared.packages.Package.{Package}
 use Rattle.pn_collect.specs.Outline.{outline, wanted, HasFiles, AreFilesBelow, AreSoundFiles, IsMade, IsBare, IsBelow, path_of}
-use Rattle.pn_collect.proofs.Lists.{from_image, in_image}
 
 texts_of : (files : List File) → map text_below (map path_of files) ≡ map (λ (f : File). text_below f.0) files
 texts_of [] = refl
@@ -25,7 +26,7 @@ texts_of (f ∷ files) = ap (λ (l : List (List ℕ)). text_below f.0 ∷ l) (te
 pub sound_files : (folder : Path) (files : List File) (paths : List Path) → paths ≡ map path_of files → All IsBelow paths → All IsClean files
     → AreApart files → All (IsShortBelow folder) files → IsRising files → AreSoundFiles folder paths
 sound_files folder files paths same below clean apart short rising =
-    let at = λ (f : Path) (c : Contains paths f). from_image path_of files f (subst (λ (l : List Path). Contains l f) same c) in
+    let at = λ (f : Path) (c : Contains paths f). from_map path_of files f (subst (λ (l : List Path). Contains l f) same c) in
     record {
       rising = subst (IsStrictlySortedBy (slice_cmp nat_cmp)) (sym (ap (map text_below) same ∙ texts_of files)) rising;
       each = λ f c. record {
@@ -38,16 +39,16 @@ sound_files folder files paths same below clean apart short rising =
           apart s f x.0.1 y.0.1 (subst (λ (p : Path). Contains files (p, x.0.1)) x.2 x.1) (subst (λ (p : Path). Contains files (p, y.0.1)) y.2 y.1);
       short = λ f c.
           let x = at f c in
-          subst (λ (p : Path). length (path_text (p ++ folder)) ≤ 4096) x.2 (All-contains (IsShortBelow folder) files x.0 short x.1);
+          subst (λ (p : Path). length (path_text (p ++ folder)) ≤ PATH_LIMIT) x.2 (All-contains (IsShortBelow folder) files x.0 short x.1);
     }
 
 pub below : (t : Tree) (folder : Path) (files : List File) (paths : List Path) → paths ≡ map path_of files → All IsClean files → IsFilesOf t folder files → HasFew t folder entry_limit → AreFilesBelow t folder paths
 below t folder files paths same clean h few = record {
   stand = λ f c.
-      let x = from_image path_of files f (subst (λ (l : List Path). Contains l f) same c) in
+      let x = from_map path_of files f (subst (λ (l : List Path). Contains l f) same c) in
       let s = h.stands f x.0.1 (subst (λ (p : Path). Contains files (p, x.0.1)) x.2 x.1) in
       (s.0, s.1);
-  all = λ f is. subst (λ (l : List Path). Contains l f) (sym same) (in_image path_of files (f, length is.0) (h.all f is.0 is.1));
+  all = λ f is. subst (λ (l : List Path). Contains l f) (sym same) (to_map path_of files (f, length is.0) (h.all f is.0 is.1));
   short = λ f bytes is. (All-contains IsClean files (f, length bytes) clean (h.all f bytes is)).short;
   few = few;
 }
@@ -63,7 +64,7 @@ pub has_files : (t : Tree) (p : Package) (folder : Path) (files : List Path) →
 has_files t p folder files at is h = subst (λ (a : Path). AreFilesBelow t a p.files.items) (sym at) (subst (AreFilesBelow t folder) (sym is) h)
 
 pub outlined : (q : Found) (p : Package) (folder : Path) → IsBare q p → p.folder ≡ folder → folder ≡ package_folder q.id → outline p ≡ wanted q
-outlined q p folder bare at here = λ i. record { pair = (bare.name i, bare.version i); dependencies = bare.dependencies i; folder = (at ∙ here) i }
+outlined q p folder bare at here = λ i. record { id = bare.id i; dependencies = bare.dependencies i; folder = (at ∙ here) i }
 
 -- a path's text begins behind a slash, so it has a part
 pub has_part : (text : List ℕ) (p : Path) → SpellsParts text p → p ≢ []

@@ -1,19 +1,18 @@
 -- The packages of an install are one list.
-use Rattle.std.proofs.Common.{◌≡◌, List, [], ◌∷◌, ◌++◌, map, Some, refl, sym, ap, ◌∙◌, subst, nat_cmp, IsPermutation}
+use Rattle.std.proofs.Common.{◌≡◌, List, [], ◌∷◌, ◌++◌, map, refl, sym, ap, ◌∙◌, subst, nat_cmp, IsPermutation}
 use Rattle.std.specs.Cmp.Lexicographic.{slice_cmp}
 use Rattle.std.specs.List.{Contains}
 use Rattle.std.specs.List.Sorted.{IsStrictlySortedBy}
 use Rattle.std.proofs.lemmas.List.Sorted.{Contains-permutation, IsPermutation-sym, IsPermutation-trans}
 use Rattle.pn_text.specs.Path.{Path, text_below}
+use Rattle.pn_text.proofs.Members.{here, there}
 use Rattle.pn_fs.specs.Tree.{Tree, IsFile}
-use Rattle.pn_registry.proofs.Lists.{here, there}
 use Rattle.pn_layout.specs.declared.packages.Package.{Package}
 use Rattle.pn_layout.specs.Sound.{Contents, contents}
 use Rattle.pn_collect.specs.Laws.{SameLaw}
-use Rattle.pn_collect.specs.Outline.{Outline, outline, wanted, called_text, AreFilesBelow, AreRising}
-use Rattle.pn_collect.specs.Packages.{ArePackages}
+use Rattle.pn_collect.specs.Outline.{Outline, outline, wanted, AreFilesBelow, AreRising}
 use Rattle.pn_collect.proofs.SortedTexts.{one_list}
-use Rattle.pn_collect.proofs.Whole.{out_text, texts_of}
+use Rattle.pn_collect.proofs.Whole.{out_id, ids_made}
 
 -- a package's files are those below its folder, in order
 record AreListed (t : Tree) (p : Package) : Type 0 where
@@ -27,7 +26,7 @@ same_files t p q folder a b =
     (λ f c. a.files.all f (subst (λ (at : Path). IsFile t (f ++ at)) (sym folder) (b.files.stand f c)))
 
 of_outline : Outline → List Path → Contents
-of_outline o files = record { pair = o.pair; dependencies = o.dependencies; folder = o.folder; files = files }
+of_outline o files = record { id = o.id; dependencies = o.dependencies; folder = o.folder; files = files }
 
 same_one : (t : Tree) (p q : Package) → outline p ≡ outline q → AreListed t p → AreListed t q → contents p ≡ contents q
 unfolding of_outline
@@ -50,8 +49,8 @@ same t own met packages others a b =
     let order : IsPermutation (map outline packages) (map outline others) =
     IsPermutation-trans (map outline packages) (map wanted met) (map outline others) (IsPermutation-sym (map wanted met) (map outline packages) a.exact) b.exact in
     let outlines : map outline packages ≡ map outline others =
-    one_list out_text (map outline packages) (map outline others)
-    (subst (IsStrictlySortedBy (slice_cmp nat_cmp)) (texts_of packages) a.sorted) (subst (IsStrictlySortedBy (slice_cmp nat_cmp)) (texts_of others) b.sorted)
+    one_list out_id (map outline packages) (map outline others)
+    (subst (IsStrictlySortedBy (slice_cmp nat_cmp)) (ids_made packages) a.sorted) (subst (IsStrictlySortedBy (slice_cmp nat_cmp)) (ids_made others) b.sorted)
     (λ o c. Contains-permutation (map outline packages) (map outline others) o order c)
     (λ o c. Contains-permutation (map outline others) (map outline packages) o (IsPermutation-sym (map outline packages) (map outline others) order) c) in
     same_all t packages others outlines (λ p c. record { files = a.files p c; rising = a.rising p c }) (λ q c. record { files = b.files q c; rising = b.rising q c })

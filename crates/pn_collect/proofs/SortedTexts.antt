@@ -1,5 +1,5 @@
 -- Texts in byte order.
-use Rattle.std.proofs.Common.{◌≡◌, ◌≢◌, ◌≤◌, ◌<◌, ◌+◌, ℕ, List, [], ◌∷◌, ◌++◌, true, false, Ordering, Less, Equal, Greater, nat_cmp, map, length, get_or, inl, inr, refl, sym, ap, ◌∙◌, subst, arith, IsSorted, length-append}
+use Rattle.std.proofs.Common.{◌≡◌, ◌≢◌, ◌<◌, ◌+◌, ℕ, List, [], ◌∷◌, ◌++◌, true, false, Ordering, Less, Equal, Greater, nat_cmp, map, length, get_or, inl, inr, refl, sym, ap, ◌∙◌, subst, arith, IsSorted, length-append}
 use Rattle.std.specs.Cmp.Lexicographic.{slice_cmp}
 use Rattle.std.specs.List.{Contains}
 use Rattle.std.specs.List.Sorted.{IsStrictlySortedBy}
@@ -10,11 +10,7 @@ use Rattle.std.proofs.lemmas.List.Elements.{All-contains, All-from_recursion}
 use Rattle.std.proofs.lemmas.List.Sorted.{ranks_by, sorted_far}
 use Rattle.std.proofs.lemmas.Map.Text.{is_eq-slice_cmp}
 use Rattle.std.proofs.lemmas.Slice.Eq.{bytes_eq-Decides}
-use Rattle.pn_registry.proofs.Lists.{here, in_cons, none_in, there}
-use Rattle.pn_collect.proofs.Lists.{in_image}
-
-same_text : (x y : List ℕ) → slice_cmp nat_cmp x y ≡ Equal → x ≡ y
-same_text x y h = (bytes_eq-Decides x y).0 (sym (is_eq-slice_cmp x y) ∙ ap is_eq h)
+use Rattle.pn_text.proofs.Members.{here, in_cons, none_in, there, to_map}
 
 -- a text that comes before another one comes after none of it
 flipped : (x y : List ℕ) → slice_cmp nat_cmp x y ≡ Greater → is_lt (slice_cmp nat_cmp y x) ≡ true
@@ -25,14 +21,14 @@ pub one_text : (x y : List ℕ) → is_lt (slice_cmp nat_cmp x y) ≡ false → 
 one_text x y a b = by_order (slice_cmp nat_cmp x y) refl where
   by_order : (o : Ordering) → slice_cmp nat_cmp x y ≡ o → x ≡ y
   by_order Less h = let no : true ≡ false = sym (ap is_lt h) ∙ a in cc
-  by_order Equal h = same_text x y h
+  by_order Equal h = (bytes_eq-Decides x y).0 (sym (is_eq-slice_cmp x y) ∙ ap is_eq h)
   by_order Greater h = let no : true ≡ false = sym (flipped x y h) ∙ b in cc
 
 pub below_text : (x y : List ℕ) → is_lt (slice_cmp nat_cmp y x) ≡ false → x ≢ y → slice_cmp nat_cmp x y ≡ Less
 below_text x y up apart = by_order (slice_cmp nat_cmp x y) refl where
   by_order : (o : Ordering) → slice_cmp nat_cmp x y ≡ o → o ≡ Less
   by_order Less h = refl
-  by_order Equal h = absurd (apart (same_text x y h))
+  by_order Equal h = absurd (apart (one_text x y (ap is_lt h) up))
   by_order Greater h = let no : true ≡ false = sym (flipped x y h) ∙ up in cc
 
 -- the first one of sorted texts comes before or with each other one
@@ -62,7 +58,7 @@ module _ {A : Type 0} (key : A → List ℕ) where
   first_below : (x : A) (xs : List A) → IsStrictlySortedBy (slice_cmp nat_cmp) (map key (x ∷ xs)) → (y : A) → Contains xs y → slice_cmp nat_cmp (key x) (key y) ≡ Less
   unfolding IsStrictlySortedBy
   first_below x xs rising y c =
-      All-contains (λ k. slice_cmp nat_cmp (key x) k ≡ Less) (map key xs) (key y) (All-from_recursion (λ k. slice_cmp nat_cmp (key x) k ≡ Less) (map key xs) rising.0) (in_image key xs y c)
+      All-contains (λ k. slice_cmp nat_cmp (key x) k ≡ Less) (map key xs) (key y) (All-from_recursion (λ k. slice_cmp nat_cmp (key x) k ≡ Less) (map key xs) rising.0) (to_map key xs y c)
 
   rest : (x : A) (xs : List A) → IsStrictlySortedBy (slice_cmp nat_cmp) (map key (x ∷ xs)) → IsStrictlySortedBy (slice_cmp nat_cmp) (map key xs)
   unfolding IsStrictlySortedBy

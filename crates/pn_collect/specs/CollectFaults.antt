@@ -13,7 +13,7 @@ use Rattle.pn_registry.specs.Below.{HasMany}
 use Rattle.pn_registry.specs.Files.{file_limit}
 use Rattle.pn_registry.specs.FilesFaults.{IsFirstModules, IsFirstLarge, entry_limit}
 use Rattle.pn_registry.specs.Places.{package_folder}
-use Rattle.pn_choice.specs.Edges.{package_text}
+use Rattle.pn_choice.specs.Edges.{id_of}
 use Rattle.pn_choice.specs.declared.package.Package.{Package as Found}
 use Rattle.pn_layout.specs.declared.packages.Package.{Package}
 use Rattle.pn_collect.specs.Outline.{outline, wanted, IsMade, HasFiles}
@@ -46,7 +46,7 @@ pub record IsFirstRefused (met : List Found) (r : Option Tree) (fault : CollectF
   pub at : Found
   pub rest : List Found
   pub all : IsPermutation met (before ++ at ∷ rest)
-  pub sorted : IsSorted (slice_cmp nat_cmp) (map package_text (before ++ at ∷ rest))
+  pub sorted : IsSorted (slice_cmp nat_cmp) (map id_of (before ++ at ∷ rest))
   pub passed : All (HasPassed r) before
   pub refused : NoFiles r at.id fault
 

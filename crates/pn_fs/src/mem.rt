@@ -27,10 +27,9 @@ impl MemFs {
         ensures seen { ⟦<MemFs as ReadFs>⟧.seen result ≡ fresh }
         ensures script { fs_script result ≡ record { fails = is_listed fail.items; next = 0; faults = 0 } }
     {
-        MemFs {
-            files: SureFs::new(alloc),
-            turns: Turns::new(fail),
-        }
+        let files = SureFs::new(alloc);
+        let turns = Turns::new(fail);
+        MemFs { files, turns }
     }
 
     /// The number of the next call.

@@ -1,12 +1,13 @@
 -- The first path that is too long is settled by what the packages have.
-use Rattle.std.proofs.Common.{◌≡◌, ◌≤◌, ℕ, List, [], ◌∷◌, ◌++◌, length, map, None, Ordering, Less, Equal, Greater, nat_cmp, refl, sym, ap, ◌∙◌, subst, arith}
+use Rattle.std.proofs.Common.{◌≡◌, ℕ, List, [], ◌∷◌, ◌++◌, length, map, None, Ordering, Less, Equal, Greater, nat_cmp, refl, sym, ap, ◌∙◌, subst, arith}
 use Rattle.std.specs.Cmp.Lexicographic.{slice_cmp}
 use Rattle.std.specs.Ordering.{is_eq, ordering_reverse}
 use Rattle.std.proofs.lemmas.Cmp.{nat_list_cmp_total}
 use Rattle.std.proofs.lemmas.Map.Text.{is_eq-slice_cmp}
 use Rattle.std.proofs.lemmas.Slice.Eq.{bytes_eq-Decides}
+use Rattle.pn_text.specs.Ids.{id_name, id_version}
 use Rattle.pn_text.specs.Path.{Path, path_text}
-use Rattle.pn_fs.specs.Tree.{Tree, Entry}
+use Rattle.pn_fs.specs.Tree.{Tree}
 use Rattle.pn_node.specs.Plan.{Instance, Plan, InBuild}
 use Rattle.pn_manifest.specs.Pairs.{Pair}
 use Rattle.pn_layout.specs.declared.packages.Package.{Package}
@@ -18,8 +19,8 @@ use Rattle.pn_layout.specs.Store.{dir_name, home_of, store_of}
 
 instance_by : Tree → Path → Contents → Instance
 instance_by r top c = record {
-  dir = dir_name c.pair;
-  name = c.pair.0;
+  dir = dir_name (id_name c.id, id_version c.id);
+  name = id_name c.id;
   files = map (λ (f : Path). (f, file_bytes (r (f ++ c.folder)))) c.files;
   links = map (λ (d : Pair). (d.0, home_of top d)) c.dependencies;
 }

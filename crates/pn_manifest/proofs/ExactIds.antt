@@ -1,5 +1,5 @@
 -- The id of a name and an exact version.
-use Rattle.std.proofs.Common.{◌≡◌, List, ℕ, Some, None, Ok, Err, true, false, Bool, ap, sym, ◌∙◌, refl, subst}
+use Rattle.std.proofs.Common.{◌≡◌, List, ℕ, Some, None, Ok, true, false, Bool, ap, sym, ◌∙◌, refl}
 use Rattle.std.specs.Prelude.{Option, Result, is_some, if◌then◌else◌}
 use Rattle.semver.specs.Parse.{Parts, version_parts}
 use Rattle.semver.specs.declared.error.Error.{Error}

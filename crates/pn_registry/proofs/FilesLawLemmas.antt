@@ -1,22 +1,20 @@
 -- A tree shows one cause to refuse the files of a package, or none.
-use Rattle.std.proofs.Common.{◌≡◌, ◌≢◌, ◌≤◌, ◌<◌, ℕ, List, [], ◌∷◌, ◌++◌, refl, sym, ap, ◌∙◌, subst, inl, inr, true, false, Bool, Ordering, Less, Equal, Greater, nat_cmp, Some, arith, map}
+use Rattle.std.proofs.Common.{◌≡◌, ◌≢◌, ℕ, List, [], ◌∷◌, ◌++◌, refl, sym, ap, ◌∙◌, subst, inl, inr, Bool, Less, Equal, Greater, nat_cmp, Some, arith}
 use Rattle.std.specs.Cmp.Lexicographic.{slice_cmp}
-use Rattle.std.specs.List.{Contains, All, AllByRecursion}
+use Rattle.std.specs.List.{Contains, All}
 use Rattle.std.specs.List.Sorted.{IsStrictlySortedBy}
 use Rattle.std.specs.Ordering.{ordering_reverse, is_eq}
-use Rattle.std.specs.Str.{bytes_eq}
 use Rattle.std.proofs.lemmas.Cmp.{nat_list_cmp_total}
 use Rattle.std.proofs.lemmas.List.Elements.{All-contains}
 use Rattle.std.proofs.lemmas.Map.Text.{is_eq-slice_cmp}
 use Rattle.std.proofs.lemmas.Slice.Eq.{bytes_eq-Decides}
 use Rattle.pn_text.specs.Path.{Path, text_below}
-use Rattle.pn_fs.specs.Tree.{Tree, IsTree, Entry}
+use Rattle.pn_fs.specs.Tree.{Tree, IsTree}
 use Rattle.pn_read.specs.Small.{IsFileOf}
 use Rattle.pn_registry.specs.Below.{HasFew, HasMany}
 use Rattle.pn_registry.specs.Files.{File, IsRising, IsFilesOf, IsClean}
-use Rattle.pn_registry.specs.FilesFaults.{FilesCause, IsFirstFile, IsFirstModules, IsFirstLarge, is_modular, is_large, entry_limit}
+use Rattle.pn_registry.specs.FilesFaults.{IsFirstFile, is_modular, is_large, entry_limit}
 use Rattle.pn_registry.specs.FilesLaws.{FilesCauseLaw, FilesPassedLaw, FilesSameLaw}
-use Rattle.pn_registry.specs.declared.contents.FilesFault.{FilesFault}
 use Rattle.pn_registry.specs.declared.contents.FilesFault.TheVariants.{Modules, TooLarge, Entries, Fault, Memory}
 use Rattle.pn_registry.proofs.Clean.{large}
 use Rattle.pn_registry.proofs.Distinct.{no_longer}

@@ -14,3 +14,4 @@ pub mod Distinct
 pub mod FilesLawLemmas
 pub mod ShortFiles
 pub mod ManifestLawLemmas
+pub mod GivenLemmas

@@ -1,8 +1,8 @@
 -- A file has the text of one object at most, and one thing is wrong with it.
-use Rattle.std.proofs.Common.{◌≡◌, ◌≤◌, ◌<◌, ℕ, List, Some, None, length, refl, sym, ap, ◌∙◌, subst, arith}
-use Rattle.std.specs.Prelude.{Option, option_map, option_and_then}
+use Rattle.std.proofs.Common.{◌≡◌, ◌<◌, ℕ, List, Some, None, length, refl, sym, ap, ◌∙◌, subst, arith}
+use Rattle.std.specs.Prelude.{Option}
 use Rattle.serde_json.specs.Data.{Data}
-use Rattle.pn_fs.specs.Tree.{Tree, Entry, file}
+use Rattle.pn_fs.specs.Tree.{Entry}
 use Rattle.pn_fs.proofs.SeenLemmas.{file_once}
 use Rattle.pn_read.specs.Small.{IsFileOf}
 use Rattle.pn_manifest.specs.Exact.{Id}
@@ -16,7 +16,6 @@ use Rattle.pn_registry.specs.ManifestLaws.{ManifestCauseLaw, ManifestPassedLaw, 
 use Rattle.pn_registry.specs.Package.{text_limit, first_wrong_of, IsText}
 use Rattle.pn_registry.specs.PackageFaults.{IsNoText, WrongFile}
 use Rattle.pn_registry.specs.Places.{manifest_path}
-use Rattle.pn_registry.specs.declared.package.PackageFault.{PackageFault}
 use Rattle.pn_registry.specs.declared.package.PackageFault.TheVariants.{Wrong, TooLarge, Fault, Memory}
 
 value_once : (x y : Data) (o : Option Data) → o ≡ Some x → o ≡ Some y → x ≡ y

@@ -1,5 +1,5 @@
 -- Files in byte order.
-use Rattle.std.proofs.Common.{◌≡◌, ℕ, List, [], ◌∷◌, ◌++◌, length, map, refl, sym, ap, ◌∙◌, subst, inl, inr, true, Less, nat_cmp, Some}
+use Rattle.std.proofs.Common.{◌≡◌, ℕ, List, [], ◌∷◌, ◌++◌, length, map, refl, sym, ap, ◌∙◌, subst, true, Less, nat_cmp, Some}
 use Rattle.std.specs.Prelude.{nat_eq, IsTrue}
 use Rattle.std.specs.Cmp.{on_total}
 use Rattle.std.specs.Cmp.Lexicographic.{slice_cmp, pointwise, nat_list_cmp_total, texts_ties}
@@ -10,7 +10,7 @@ use Rattle.std.proofs.lemmas.List.Sorted.{Contains-permutation, IsPermutation-sy
 use Rattle.std.proofs.lemmas.Slice.Eq.{bytes_eq-Decides}
 use Rattle.std.specs.Cmp.{on_equiv}
 use Rattle.std.specs.Cmp.Lexicographic.{nat_list_eq_equiv}
-use Rattle.pn_text.specs.Path.{Path, is_path, is_part, text_below, parts_from}
+use Rattle.pn_text.specs.Path.{Path, is_path, is_part, text_below}
 use Rattle.pn_text.proofs.Bools.{and_left, and_right}
 use Rattle.pn_text.proofs.Paths.{below_one}
 use Rattle.pn_fs.specs.Tree.{Tree, IsTree, file}

@@ -1,5 +1,5 @@
 -- The text of a path below a folder.
-use Rattle.std.proofs.Common.{◌≡◌, ◌≢◌, ℕ, List, [], ◌∷◌, ◌++◌, length, drop, refl, sym, ap, ◌∙◌, subst, append_assoc, append-nil}
+use Rattle.std.proofs.Common.{◌≡◌, ◌≢◌, ℕ, List, [], ◌∷◌, ◌++◌, length, drop, refl, sym, ap, ◌∙◌, subst}
 use Rattle.std.specs.Prelude.{IsTrue}
 use Rattle.pn_text.specs.Path.{Path, is_path, path_text, text_below, SpellsAbs, SpellsParts}
 use Rattle.pn_text.proofs.Joins.{text_below-append, below_begins}

@@ -3,7 +3,7 @@ ghost use Rattle.std.specs.Prelude.{◌≡◌, ◌∷◌, [], ◌↔◌, IsTrue,
 ghost use Rattle.pn_text.specs.Path.{is_part};
 ghost use Rattle.pn_text.specs.Causes.{HasCause};
 ghost use Rattle.pn_fs.specs.Tree.{folder};
-ghost use Rattle.pn_fs.specs.Seen.{Keeps};
+ghost use Rattle.pn_fs.specs.Seen.{Keeps, GaveNothing};
 ghost use Rattle.pn_registry.specs.Places.{package_folder, manifest_path, IsPathOrLong};
 
 use pn_fs::{Kind, ReadFs};
@@ -13,6 +13,7 @@ use std::alloc::Global;
 /// Whether a folder stands at a package's place.
 pub fn stands<R: ReadFs>(alloc: Global, registry: &mut R, id: &PkgId) -> Result<bool, DevFault>
     ensures folder { IfSome (R.seen registry.old).tree (λ t. IfOk result (λ is. IsTrue is ↔ (t (package_folder id.now) ≡ Some folder))) }
+    ensures gave { IfSome (R.seen registry.old).tree (λ t. GaveNothing (R.seen registry.old) (R.seen registry.new)) }
     ensures kept { Keeps (R.seen registry.old) (R.seen registry.new) }
     ensures cause { HasCause (R.seen registry.old).faults (R.seen registry.new).faults result }
 {
@@ -25,6 +26,7 @@ pub fn stands<R: ReadFs>(alloc: Global, registry: &mut R, id: &PkgId) -> Result<
 
 fn is_folder<R: ReadFs>(registry: &mut R, path: &AbsPath) -> Result<bool, DevFault>
     ensures folder { IfSome (R.seen registry.old).tree (λ t. IfOk result (λ is. IsTrue is ↔ (t path.now ≡ Some folder))) }
+    ensures gave { IfSome (R.seen registry.old).tree (λ t. GaveNothing (R.seen registry.old) (R.seen registry.new)) }
     ensures kept { Keeps (R.seen registry.old) (R.seen registry.new) }
     ensures cause { HasCause (R.seen registry.old).faults (R.seen registry.new).faults result }
 {

@@ -1,8 +1,9 @@
 // A package's own manifest.
-ghost use Rattle.std.specs.Prelude.{◌≡◌, OnOk, IfOk, IfErr, IfSome, Some, None, [], option_map};
+ghost use Rattle.std.specs.Prelude.{◌≡◌, ◌+◌, OnOk, IfOk, IfErr, IfSome, Some, None, [], option_map};
 ghost use Rattle.serde_json.specs.Data.{Data};
 ghost use Rattle.semver.specs.Identifiers.{parts_of};
-ghost use Rattle.pn_fs.specs.Seen.{Keeps};
+ghost use Rattle.pn_text.specs.declared.limits.TheConstants.{TEXT_LIMIT};
+ghost use Rattle.pn_fs.specs.Seen.{Keeps, GaveAtMost};
 ghost use Rattle.pn_registry.specs.Places.{manifest_path};
 ghost use Rattle.pn_registry.specs.Package.{IsRead, IsFound, has_text, stated_other};
 ghost use Rattle.pn_manifest.specs.Text.{IsObjectText};
@@ -40,6 +41,7 @@ pub fn manifest<R: ReadFs>(
 ) -> Result<Manifest, PackageFault>
     ensures found { IfSome (R.seen registry.old).tree (λ t. IfOk result (IsFound id.now (t (manifest_path id.now)))) }
     ensures read { IfOk result (λ m. (d : Data) × IsRead id.now d m) }
+    ensures gave { IfSome (R.seen registry.old).tree (λ t. GaveAtMost (R.seen registry.old) (TEXT_LIMIT + 1) 0 (R.seen registry.new)) }
     ensures kept { Keeps (R.seen registry.old) (R.seen registry.new) }
     ensures fault { IfErr result (PackageRefused id.now (R.seen registry.old) (R.seen registry.new)) }
 {
@@ -59,6 +61,7 @@ fn read_at<R: ReadFs>(
     requires { path.now ≡ manifest_path id.now }
     ensures found { IfSome (R.seen registry.old).tree (λ t. IfOk result (IsFound id.now (t (manifest_path id.now)))) }
     ensures read { IfOk result (λ m. (d : Data) × IsRead id.now d m) }
+    ensures gave { IfSome (R.seen registry.old).tree (λ t. GaveAtMost (R.seen registry.old) (TEXT_LIMIT + 1) 0 (R.seen registry.new)) }
     ensures kept { Keeps (R.seen registry.old) (R.seen registry.new) }
     ensures fault { IfErr result (PackageRefused id.now (R.seen registry.old) (R.seen registry.new)) }
 {

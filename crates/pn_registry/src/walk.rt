@@ -1,15 +1,16 @@
 // Walks through a folder and all folders below it.
-ghost use Rattle.std.specs.Prelude.{◌≡◌, ◌≢◌, ◌+◌, ◌≤◌, ◌++◌, ◌∷◌, [], OnOk, IfOk, IfErr, IfSome, Some, IsTrue, length, map, vec_len, drop, ◌^◌, ◌<◌, ℕ, List};
+ghost use Rattle.std.specs.Prelude.{◌≡◌, ◌≢◌, ◌+◌, ◌≤◌, ◌++◌, ◌∷◌, [], OnOk, OnErr, IfOk, IfErr, IfSome, Some, IsTrue, length, map, vec_len, drop, ◌^◌, ◌<◌, ℕ, List};
 ghost use Rattle.std.specs.Option.{ForSome};
 ghost use Rattle.std.specs.List.{All};
 ghost use Rattle.pn_text.specs.Path.{is_part, path_text};
+ghost use Rattle.pn_text.specs.declared.limits.TheConstants.{PATH_LIMIT};
 ghost use Rattle.pn_fs.specs.Tree.{folder};
-ghost use Rattle.pn_fs.specs.Seen.{Keeps};
+ghost use Rattle.pn_fs.specs.Seen.{Keeps, GaveNothing, GaveNames, GaveAtMost};
 ghost use Rattle.pn_fs.specs.Calls.{IsListing, IsEntryName};
 ghost use Rattle.pn_registry.specs.Files.{IsFilesOf, IsShortBelow};
 ghost use Rattle.pn_registry.specs.Below.{IsWithin, AllWithin, HasFew};
 ghost use Rattle.pn_registry.specs.Listed.{file_of, placed, IsShortFile};
-ghost use Rattle.pn_registry.specs.Turns.{Takes, TakesAll, Lists, ListRefused, CallRefused, WalkRefused};
+ghost use Rattle.pn_registry.specs.Turns.{Takes, TakesAll, Lists, ListRefused, CallRefused, WalkRefused, GaveListings};
 
 use crate::list::PackageFile;
 use pn_fs::{Kind, ReadFs};
@@ -41,6 +42,8 @@ pub fn walk<R: ReadFs>(
     ensures files { IfSome (R.seen registry.old).tree (λ t. IfOk result (λ v. IsFilesOf t at.now (map file_of v.items))) }
     ensures few { IfSome (R.seen registry.old).tree (λ t. OnOk result (HasFew t at.now limit)) }
     ensures short { IfOk result (λ v. All (IsShortFile at.now) v.items) }
+    ensures gave_few { IfSome (R.seen registry.old).tree (λ t. OnOk result (GaveAtMost (R.seen registry.old) 0 limit (R.seen registry.new))) }
+    ensures gave { IfSome (R.seen registry.old).tree (λ t. GaveListings t limit (R.seen registry.old) (R.seen registry.new)) }
     ensures kept { Keeps (R.seen registry.old) (R.seen registry.new) }
     ensures fault { IfErr result (WalkRefused (R.seen registry.old) (R.seen registry.new) at.now limit) }
 {
@@ -79,6 +82,8 @@ fn list_folder<R: ReadFs>(
     ensures grows { IfOk result (λ n. vec_len todo.new ≤ vec_len todo.old + n) }
     ensures all_within { OnOk result (AllWithin at.now todo.new.items) }
     ensures short { OnOk result (All (IsShortFile at.now) found.new.items) }
+    ensures gave_names { IfSome (R.seen registry.old).tree (λ t. IfOk result (λ n. GaveAtMost (R.seen registry.old) 0 n (R.seen registry.new))) }
+    ensures gave { IfSome (R.seen registry.old).tree (λ t. GaveListings t 0 (R.seen registry.old) (R.seen registry.new)) }
     ensures kept { Keeps (R.seen registry.old) (R.seen registry.new) }
     ensures fault { IfErr result (ListRefused (R.seen registry.old) (R.seen registry.new) parent.now room) }
 {
@@ -95,6 +100,8 @@ fn names_of<R: ReadFs>(registry: &mut R, parent: &AbsPath) -> Result<Vec<Text>, 
     requires folder { ForSome (R.seen registry.old).tree (λ t. t parent.now ≡ Some folder) }
     ensures names { IfSome (R.seen registry.old).tree (λ t. IfOk result (λ names. IsListing t parent.now names.items)) }
     ensures good { IfOk result (λ names. All (IsEntryName parent.now) names.items) }
+    ensures gave_names { IfSome (R.seen registry.old).tree (λ t. IfOk result (λ names. GaveNames (R.seen registry.old) (length names.items) (R.seen registry.new))) }
+    ensures gave_none { IfSome (R.seen registry.old).tree (λ t. OnErr result (GaveNothing (R.seen registry.old) (R.seen registry.new))) }
     ensures kept { Keeps (R.seen registry.old) (R.seen registry.new) }
     ensures fault { IfErr result (CallRefused (R.seen registry.old) (R.seen registry.new)) }
 {
@@ -123,6 +130,7 @@ fn take_all<R: ReadFs>(
     ensures grows { OnOk result (vec_len todo.new ≤ vec_len todo.old + length names.now) }
     ensures all_within { OnOk result (AllWithin at.now todo.new.items) }
     ensures short { OnOk result (All (IsShortFile at.now) found.new.items) }
+    ensures gave { IfSome (R.seen registry.old).tree (λ t. GaveAtMost (R.seen registry.old) 0 0 (R.seen registry.new)) }
     ensures kept { Keeps (R.seen registry.old) (R.seen registry.new) }
     ensures fault { IfErr result (CallRefused (R.seen registry.old) (R.seen registry.new)) }
 {
@@ -151,6 +159,7 @@ fn take<R: ReadFs>(
     ensures grows { OnOk result (vec_len todo.new ≤ vec_len todo.old + 1) }
     ensures all_within { OnOk result (AllWithin at.now todo.new.items) }
     ensures short { OnOk result (All (IsShortFile at.now) found.new.items) }
+    ensures gave { IfSome (R.seen registry.old).tree (λ t. GaveNothing (R.seen registry.old) (R.seen registry.new)) }
     ensures kept { Keeps (R.seen registry.old) (R.seen registry.new) }
     ensures fault { IfErr result (CallRefused (R.seen registry.old) (R.seen registry.new)) }
 {
@@ -210,7 +219,7 @@ fn below(alloc: Global, at: &AbsPath, path: &AbsPath) -> Result<RelPath, WalkFau
     requires within { IsWithin at.now path.now }
     requires below { path.now ≢ at.now }
     ensures path { IfOk result (λ p. path.now ≡ p ++ at.now) }
-    ensures short { IfOk result (λ p. length (path_text (p ++ at.now)) ≤ 4096) }
+    ensures short { IfOk result (λ p. length (path_text (p ++ at.now)) ≤ PATH_LIMIT) }
     ensures memory { IfErr result (λ e. e ≡ WalkFault.Memory) }
 {
     let rest = behind(path.as_str(), at.as_str().len());

@@ -1,4 +1,5 @@
 use Rattle.std.proofs.Common.{◌≤◌, ℕ, List, length, subst}
+use Rattle.pn_text.specs.declared.limits.TheConstants.{PATH_LIMIT}
 use Rattle.pn_text.specs.Path.{Path, path_text}
 use Rattle.pn_registry.proofs.Texts.{slash_behind, leads_there}
 use Rattle.pn_registry.proofs.walk.below.Goals as goal
@@ -12,4 +13,4 @@ returns-in-Ok-clause-path c =
 
 pub returns-in-Ok-clause-short : goal.returns-in-Ok-clause-short
 returns-in-Ok-clause-short c =
-    subst (λ (p : Path). length (path_text p) ≤ 4096) (returns-in-Ok-clause-path c) (subst (λ (t : List ℕ). length t ≤ 4096) c.as_str.ensures.text.spelled c.as_str.ensures.short)
+    subst (λ (p : Path). length (path_text p) ≤ PATH_LIMIT) (returns-in-Ok-clause-path c) (subst (λ (t : List ℕ). length t ≤ PATH_LIMIT) c.as_str.ensures.text.spelled c.as_str.ensures.short)

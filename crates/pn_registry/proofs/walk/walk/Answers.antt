@@ -2,6 +2,8 @@ use Rattle.std.proofs.Common.{◌≡◌, ◌∙◌, ◌++◌, ◌∷◌, ◌-◌
 use Rattle.std.specs.List.{All, Contains}
 use Rattle.std.proofs.lemmas.List.Elements.{All-nil, Contains-push}
 use Rattle.pn_fs.proofs.SeenLemmas.{keeps_on}
+use Rattle.pn_fs.specs.Seen.{GaveAtMost}
+use Rattle.pn_registry.proofs.GivenLemmas.{most_same, most_on}
 use Rattle.pn_registry.specs.Below.{AllWithin, HasFew}
 use Rattle.pn_registry.specs.Files.{IsFilesOf}
 use Rattle.pn_registry.specs.Listed.{file_of, placed, IsShortFile}
@@ -17,6 +19,7 @@ folders-init g c =
     let todo : c.push.new.self.items ≡ c.args.at.now ∷ [] = cc (c.in_ok-push.ensures.items, c.new-todo.ensures.items, c.in_ok-first.ensures) in
     record {
       kept = record { tree = refl; touched = refl; later = omega arith };
+      gave = most_same (g.R.ReadFs.seen c.args.registry.now) 0 0;
       within = omega arith;
       all_within = subst (AllWithin c.args.at.now) (sym todo) (within_itself c.args.at.now, tt);
       short = subst (All (IsShortFile c.args.at.now)) (sym c.new-found.ensures.items) (All-nil (IsShortFile c.args.at.now));
@@ -40,6 +43,8 @@ folders-preserved g c =
     let inv = c.folders.invariant in
     record {
       kept = keeps_on (g.R.ReadFs.seen c.args.registry.now) (g.R.ReadFs.seen c.folders.registry) (g.R.ReadFs.seen c.list_folder.new.registry) inv.kept c.in-Ok.ensures.kept;
+      gave = λ t told. most_on (g.R.ReadFs.seen c.args.registry.now) (g.R.ReadFs.seen c.folders.registry) (g.R.ReadFs.seen c.list_folder.new.registry) 0 c.folders.listed 0 c.in-Ok.count 0 _ (inv.gave t told)
+          (for_some (λ t. GaveAtMost (g.R.ReadFs.seen c.folders.registry) 0 c.in-Ok.count (g.R.ReadFs.seen c.list_folder.new.registry)) _ c.in-Ok.ensures.gave_names t (inv.kept.tree ∙ told)) (omega arith) (omega arith);
       within = omega (arith, inv.within, c.in-Ok.ensures.room);
       all_within = c.in-Ok.ensures.all_within;
       short = c.in-Ok.ensures.short;

@@ -4,7 +4,7 @@ use Rattle.pn_text.specs.declared.ids.Edge.{Edge}
 use Rattle.pn_manifest.specs.Exact.{Id, IsExactId, is_exact}
 use Rattle.pn_choice.specs.Refusals.{EdgeRefused, Refuses}
 use Rattle.pn_text.proofs.Results.{if_err}
-use Rattle.pn_choice.proofs.Taking.{edge_same, id_whole}
+use Rattle.pn_choice.proofs.Taking.{edge_same}
 use Rattle.pn_choice.proofs.walk.Walk.take.Goals as goal
 
 pub returns-in-Ok-Some-clause-refused : goal.returns-in-Ok-Some-clause-refused
