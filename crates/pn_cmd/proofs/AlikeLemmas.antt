@@ -1,9 +1,9 @@
 -- Of one start a run ends alike.
-use Rattle.std.proofs.Common.{◌≡◌, ◌∷◌, ◌++◌, ◌⊎◌, ℕ, List, map, length, [], arith, refl, sym, ap, ◌∙◌, subst, Option, Some, None, inl, inr, Bool, true, false}
+use Rattle.std.proofs.Common.{◌≡◌, ◌∷◌, ◌++◌, ◌⊎◌, ℕ, List, map, length, [], arith, refl, sym, ap, ◌∙◌, subst, Option, Some, None, inl, inr, true, false}
 use Rattle.std.specs.List.{Contains}
 use Rattle.std.proofs.lemmas.List.{length-map}
 use Rattle.pn_text.specs.Path.{Path}
-use Rattle.pn_fs.specs.Tree.{Entry, Tree, IsTree}
+use Rattle.pn_fs.specs.Tree.{Tree, IsTree}
 use Rattle.pn_fs.specs.Seen.{Taken}
 use Rattle.pn_fs.specs.Takes.{told_more}
 use Rattle.pn_node.specs.Plan.{Plan, IsBuilt}
@@ -12,7 +12,6 @@ use Rattle.pn_manifest.specs.Pairs.{Pair}
 use Rattle.pn_plan.specs.Drawing.{is_within}
 use Rattle.pn_plan.specs.declared.planned.Planned.{Planned}
 use Rattle.pn_choice.specs.Walked.{IsReached}
-use Rattle.pn_choice.specs.declared.package.Package.{Package as Found}
 use Rattle.pn_choice.proofs.Settled.{same as same_reached}
 use Rattle.pn_layout.specs.declared.packages.Package.{Package}
 use Rattle.pn_layout.specs.declared.fault.LayoutFault.TheVariants.{TooLong as FaultLong}
@@ -27,7 +26,7 @@ use Rattle.pn_cmd.specs.declared.status.Which.TheVariants.{File, Path as PathLen
 use Rattle.pn_cmd.specs.declared.status.Status.{Status}
 use Rattle.pn_cmd.specs.declared.status.Status.TheVariants.{Done, Memory, Limit, ProjectFault, RegistryFault, SinkFault}
 use Rattle.pn_cmd.specs.World.{World, Inputs, Shown, shown, trees_of}
-use Rattle.pn_cmd.specs.Points.{Point, Refuses, IsFree, then}
+use Rattle.pn_cmd.specs.Points.{Refuses, IsFree, then}
 use Rattle.pn_cmd.specs.Names.{workspace_name, package_name, lock_name, modules_path}
 use Rattle.pn_cmd.specs.Known.{Project, Graph, Sources, Build, project_of}
 use Rattle.pn_cmd.specs.Words.{words}
@@ -37,7 +36,7 @@ use Rattle.pn_cmd.specs.Graph.{reached}
 use Rattle.pn_cmd.specs.Packages.{listed}
 use Rattle.pn_cmd.specs.Plans.{planned, IsPlanned}
 use Rattle.pn_cmd.specs.Chain.{words_at, workspace_at, manifest_at, lock_at, reached_at, modules_at, listed_at, planned_at, tree, goal, install}
-use Rattle.pn_cmd.specs.Reports.{report, report_of}
+use Rattle.pn_cmd.specs.Reports.{report_of}
 use Rattle.pn_cmd.specs.Endings.{Ends, refused, stopped, unreported, done, Stops, Unreported, Untouched, IsDone, IsInstalled, Installs}
 use Rattle.pn_cmd.specs.Laws.{AreTold, IsOwn, Starts, EndAlike, SettledLaw}
 use Rattle.pn_cmd.proofs.CauseLemmas.{cause_in}

@@ -7,9 +7,9 @@ use Rattle.pn_choice.specs.Refusals.{IsStopped}
 use Rattle.pn_collect.specs.declared.fault.CollectFault.{CollectFault}
 use Rattle.pn_collect.specs.declared.fault.CollectFault.TheVariants.{Modules, TooLarge, Entries as FaultEntries, Fault as CollectFailed, Memory as NoCollectMemory}
 use Rattle.pn_collect.specs.CollectFaults.{IsFirstRefused}
-use Rattle.pn_cmd.specs.declared.status.Which.TheVariants.{Packages, File, Text, Path as PathLength, Entries}
+use Rattle.pn_cmd.specs.declared.status.Which.TheVariants.{File, Text, Path as PathLength}
 use Rattle.pn_cmd.specs.declared.status.Status.{Status}
-use Rattle.pn_cmd.specs.declared.status.Status.TheVariants.{Memory, Usage, Manifest as BadManifest, NoVersion, Limit, ProjectFault, RegistryFault, SinkFault, NotYet}
+use Rattle.pn_cmd.specs.declared.status.Status.TheVariants.{Memory, Usage, Manifest as BadManifest, Limit, ProjectFault, RegistryFault, SinkFault, NotYet}
 use Rattle.pn_cmd.specs.World.{World, Inputs, Shown, shown, trees_of}
 use Rattle.pn_cmd.specs.Points.{Refuses, then}
 use Rattle.pn_cmd.specs.Names.{workspace_name, package_name, lock_name, modules_path}
@@ -19,8 +19,8 @@ use Rattle.pn_cmd.specs.Graph.{reach_status}
 use Rattle.pn_cmd.specs.Known.{Graph, Project, Sources, Build}
 use Rattle.pn_cmd.specs.Packages.{collect_status}
 use Rattle.pn_cmd.specs.Plans.{TooLong}
-use Rattle.pn_cmd.specs.Chain.{words_at, workspace_at, manifest_at, lock_at, reached_at, modules_at, listed_at, planned_at, tree, goal, install, to_workspace, to_manifest, to_lock, to_reached, to_modules, to_listed, StandsAt, at_words, at_workspace, at_manifest, at_lock, at_reached, at_modules, at_listed, at_planned}
-use Rattle.pn_cmd.specs.Endings.{Ends, refused, stopped, unreported, done, Stops, Unreported}
+use Rattle.pn_cmd.specs.Chain.{words_at, workspace_at, manifest_at, lock_at, reached_at, modules_at, listed_at, planned_at, tree, goal, install, to_workspace, to_manifest, to_lock, to_reached, to_modules, StandsAt, at_words, at_workspace, at_manifest, at_lock, at_reached, at_modules, at_listed, at_planned}
+use Rattle.pn_cmd.specs.Endings.{refused, stopped, unreported, done, Stops, Unreported}
 use Rattle.pn_cmd.specs.Causes.{CauseOf, IsKept, IsUnread, IsUnreached, IsUnlisted, IsUnplanned}
 use Rattle.pn_cmd.specs.Laws.{CauseLaw}
 use Rattle.pn_cmd.proofs.PointLemmas.{leads_then}

@@ -1,13 +1,11 @@
 -- Lemmas on how a run ends.
-use Rattle.std.proofs.Common.{◌≡◌, ◌≢◌, ◌∷◌, ℕ, List, refl, sym, ◌∙◌, subst, inl, inr, ◌⊎◌, Option, Some, None}
+use Rattle.std.proofs.Common.{◌≡◌, ◌≢◌, ◌∷◌, ℕ, List, refl, sym, ◌∙◌, subst, inl, inr, Option, Some, None}
 use Rattle.std.specs.Prelude.{IfSome}
 use Rattle.std.specs.Option.{ForSome}
-use Rattle.pn_text.specs.Path.{Path}
 use Rattle.pn_fs.specs.Tree.{folder, Tree, IsTree}
-use Rattle.pn_fs.specs.Seen.{Seen, Taken, Keeps}
+use Rattle.pn_fs.specs.Seen.{Taken, Keeps}
 use Rattle.pn_node.specs.Plan.{IsBuilt}
 use Rattle.pn_layout.specs.Layout.{plan_of}
-use Rattle.pn_plan.specs.declared.planned.Planned.{Planned}
 use Rattle.pn_plan.specs.Plan.{is_planned, IsRising, IsWritable, IsCopyable}
 use Rattle.pn_plan.specs.Writes.{Writes, DiffersOnly}
 use Rattle.pn_collect.specs.Outline.{HaveFiles}
@@ -16,15 +14,15 @@ use Rattle.pn_choice.specs.Walked.{IsReached}
 use Rattle.pn_cmd.specs.declared.status.Status.{Status}
 use Rattle.pn_cmd.specs.declared.status.Status.TheVariants.{Done, Memory, SinkFault}
 use Rattle.pn_cmd.specs.declared.ready.Ready.{Ready}
-use Rattle.pn_cmd.specs.World.{World, Inputs, Shown, world, trees_of, AreKept}
+use Rattle.pn_cmd.specs.World.{World, Inputs, trees_of, AreKept}
 use Rattle.pn_cmd.specs.Points.{Refuses}
 use Rattle.pn_cmd.specs.Names.{package_name, modules_path}
 use Rattle.pn_cmd.specs.Known.{Build, build_of}
 use Rattle.pn_cmd.specs.Manifests.{IsManifest}
-use Rattle.pn_cmd.specs.Reports.{report, Reported, TookSome}
+use Rattle.pn_cmd.specs.Reports.{report, Reported}
 use Rattle.pn_cmd.specs.Chain.{install}
 use Rattle.pn_cmd.specs.Readies.{IsReady}
-use Rattle.pn_cmd.specs.Texts.{OrMemory, Tells, TellsLine, status_line}
+use Rattle.pn_cmd.specs.Texts.{OrMemory, Tells}
 use Rattle.pn_cmd.specs.Endings.{Ends, refused, stopped, unreported, done, Written, Stops}
 use Rattle.pn_cmd.proofs.PointLemmas.{refuses_from}
 use Rattle.pn_cmd.proofs.PassedLemmas.{HasPassed, has_passed}

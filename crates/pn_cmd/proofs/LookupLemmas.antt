@@ -1,19 +1,17 @@
 -- What the folders of an installed project find.
-use Rattle.std.proofs.Common.{◌≡◌, ◌≢◌, ℕ, List, ◌∷◌, ◌++◌, refl, sym, ap, ◌∙◌, subst, Option, Some, None, true, false, map, IsPermutation}
-use Rattle.std.specs.Prelude.{IfSome}
+use Rattle.std.proofs.Common.{◌≡◌, List, ◌++◌, refl, sym, ap, ◌∙◌, subst, Some, map}
 use Rattle.std.specs.List.{Contains}
 use Rattle.std.proofs.lemmas.List.Elements.{All-contains}
 use Rattle.std.proofs.lemmas.List.Sorted.{Contains-permutation}
 use Rattle.serde_json.specs.Data.{Data}
 use Rattle.pn_text.specs.Path.{Path}
 use Rattle.pn_text.specs.Ids.{id_name}
-use Rattle.pn_text.specs.Name.{is_name, name_path}
-use Rattle.pn_fs.specs.Tree.{folder, file, Entry, Tree, IsTree}
+use Rattle.pn_text.specs.Name.{name_path}
+use Rattle.pn_fs.specs.Tree.{folder, Tree, IsTree}
 use Rattle.pn_node.specs.Find.{find}
 use Rattle.pn_node.specs.Plan.{IsBuilt}
 use Rattle.pn_manifest.specs.Exact.{Id}
 use Rattle.pn_manifest.specs.Pairs.{Pair}
-use Rattle.pn_manifest.specs.Text.{IsObjectText}
 use Rattle.pn_manifest.specs.Fields.{edges_of}
 use Rattle.pn_registry.specs.Places.{manifest_path}
 use Rattle.pn_registry.specs.Package.{IsText}
@@ -27,7 +25,7 @@ use Rattle.pn_registry.proofs.ManifestLawLemmas.{text_once}
 use Rattle.pn_layout.specs.declared.packages.Package.{Package}
 use Rattle.pn_layout.specs.Laws.{FindsAll, FindsOwn}
 use Rattle.pn_layout.specs.Layout.{plan_of}
-use Rattle.pn_layout.specs.Store.{home_of, store_of}
+use Rattle.pn_layout.specs.Store.{home_of}
 use Rattle.pn_layout.specs.Sound.{called}
 use Rattle.pn_layout.proofs.Findings.{finds}
 use Rattle.pn_text.proofs.Members.{from_map, to_map}

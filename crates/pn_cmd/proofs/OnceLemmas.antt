@@ -1,11 +1,10 @@
 -- Of told trees each point refuses for one cause.
-use Rattle.std.proofs.Common.{◌≡◌, ◌<◌, ◌≤◌, ◌⊎◌, ℕ, List, refl, sym, ap, ◌∙◌, subst, arith, Option, Some, None, inl, inr, length, map, false}
-use Rattle.std.specs.Prelude.{IfSome}
+use Rattle.std.proofs.Common.{◌≡◌, ◌<◌, ◌≤◌, ◌⊎◌, ℕ, List, refl, sym, ap, ◌∙◌, subst, arith, Option, Some, None, inl, inr, length}
 use Rattle.std.proofs.lemmas.Option.{same_Some}
 use Rattle.serde_json.specs.Data.{Data}
 use Rattle.pn_text.specs.declared.limits.TheConstants.{PATH_LIMIT, TEXT_LIMIT}
 use Rattle.pn_text.specs.Path.{Path, path_text}
-use Rattle.pn_fs.specs.Tree.{Entry, file, Tree, IsTree}
+use Rattle.pn_fs.specs.Tree.{Entry, Tree, IsTree}
 use Rattle.pn_fs.proofs.SeenLemmas.{file_once as same_file}
 use Rattle.pn_read.specs.Small.{IsFileOf}
 use Rattle.pn_manifest.specs.Text.{IsObjectText}
@@ -19,7 +18,6 @@ use Rattle.pn_choice.proofs.Settled.{cause as reached_cause}
 use Rattle.pn_collect.specs.CollectFaults.{IsFirstRefused}
 use Rattle.pn_collect.specs.declared.fault.CollectFault.{CollectFault}
 use Rattle.pn_collect.proofs.CauseLemmas.{cause as listed_cause}
-use Rattle.pn_manifest.specs.declared.fault.ManifestWhy.{ManifestWhy}
 use Rattle.pn_manifest.specs.declared.fault.ManifestWhy.TheVariants.{Missing, NotJson, BadField}
 use Rattle.pn_cmd.specs.declared.status.Which.TheVariants.{Text, Path as PathLength}
 use Rattle.pn_cmd.specs.declared.status.Status.{Status}

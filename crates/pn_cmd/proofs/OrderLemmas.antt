@@ -1,36 +1,28 @@
 -- A point that is passed has no cause.
-use Rattle.std.proofs.Common.{◌≡◌, ◌≤◌, ℕ, List, refl, sym, ap, subst, arith, Option, Some, None, length, true, false}
+use Rattle.std.proofs.Common.{◌≡◌, ℕ, List, ap, subst, arith, Option, Some, None, length}
 use Rattle.std.specs.Prelude.{IfSome}
 use Rattle.serde_json.specs.Data.{Data}
-use Rattle.pn_text.specs.Path.{Path, path_text}
-use Rattle.pn_fs.specs.Tree.{Entry, file, Tree}
+use Rattle.pn_text.specs.Path.{Path}
+use Rattle.pn_fs.specs.Tree.{Tree}
 use Rattle.pn_fs.proofs.SeenLemmas.{file_once}
 use Rattle.pn_manifest.specs.Text.{IsObjectText}
 use Rattle.pn_manifest.specs.Fields.{first_wrong}
-use Rattle.pn_manifest.specs.Pairs.{Pair}
 use Rattle.pn_choice.specs.Walked.{IsReached}
 use Rattle.pn_choice.specs.Refusals.{IsStopped}
-use Rattle.pn_choice.specs.declared.package.Package.{Package as Found}
-use Rattle.pn_choice.specs.declared.fault.ReachFault.{ReachFault}
 use Rattle.pn_choice.proofs.Settled.{passed as reached_passed}
-use Rattle.pn_layout.specs.declared.packages.Package.{Package}
 use Rattle.pn_collect.specs.Packages.{ArePackages}
 use Rattle.pn_collect.specs.CollectFaults.{IsFirstRefused}
-use Rattle.pn_collect.specs.declared.fault.CollectFault.{CollectFault}
 use Rattle.pn_collect.proofs.Passed.{passed as listed_passed}
-use Rattle.pn_manifest.specs.declared.fault.ManifestWhy.{ManifestWhy}
 use Rattle.pn_manifest.specs.declared.fault.ManifestWhy.TheVariants.{Missing, NotJson, BadField}
 use Rattle.pn_cmd.specs.declared.status.Which.TheVariants.{Text, Path as PathLength}
 use Rattle.pn_cmd.specs.declared.status.Status.{Status}
 use Rattle.pn_cmd.specs.declared.status.Status.TheVariants.{Usage, Manifest as BadManifest, Limit, ProjectFault, RegistryFault, NotYet}
-use Rattle.pn_cmd.specs.World.{Shown}
 use Rattle.pn_cmd.specs.Points.{IsFree, Excludes}
 use Rattle.pn_cmd.specs.Words.{words}
 use Rattle.pn_cmd.specs.Standing.{standing}
-use Rattle.pn_cmd.specs.Manifests.{NoManifest, IsProjectManifest, IsWrong, IsManifest, manifest, project_later}
-use Rattle.pn_cmd.specs.Graph.{Unreached, reached}
-use Rattle.pn_cmd.specs.Known.{Graph, Sources}
-use Rattle.pn_cmd.specs.Packages.{Unlisted, listed}
+use Rattle.pn_cmd.specs.Manifests.{NoManifest, IsProjectManifest, manifest, project_later}
+use Rattle.pn_cmd.specs.Graph.{reached}
+use Rattle.pn_cmd.specs.Packages.{listed}
 use Rattle.pn_cmd.specs.Plans.{planned}
 use Rattle.pn_cmd.specs.Laws.{AreTold, OrderLaw}
 

@@ -1,7 +1,7 @@
 -- The text of a manifest's path in the registry.
-use Rattle.std.proofs.Common.{◌≡◌, ℕ, List, [], ◌∷◌, ◌++◌, refl, sym, ap, ◌∙◌, codes}
+use Rattle.std.proofs.Common.{◌≡◌, ℕ, List, ◌∷◌, ◌++◌, refl, sym, ap, ◌∙◌, codes}
 use Rattle.std.proofs.lemmas.List.{append_assoc}
-use Rattle.pn_text.specs.Path.{Path, text_below, path_text, SpellsParts}
+use Rattle.pn_text.specs.Path.{Path, text_below, SpellsParts}
 use Rattle.pn_text.specs.Name.{name_path}
 use Rattle.pn_text.specs.Ids.{id_name, id_version}
 use Rattle.pn_manifest.specs.Exact.{Id}

@@ -1,6 +1,5 @@
 -- Lemmas on points that answer alike.
-use Rattle.std.proofs.Common.{◌≡◌, ◌∷◌, refl, sym, ap, ◌∙◌, subst, inl, inr, Some, None}
-use Rattle.pn_text.specs.Path.{Path}
+use Rattle.std.proofs.Common.{◌≡◌, sym, subst, inl, inr}
 use Rattle.pn_cmd.specs.declared.status.Status.{Status}
 use Rattle.pn_cmd.specs.declared.status.Status.TheVariants.{Memory, ProjectFault, RegistryFault, SinkFault}
 use Rattle.pn_cmd.specs.World.{Shown}

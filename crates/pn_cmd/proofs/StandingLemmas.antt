@@ -6,7 +6,7 @@ use Rattle.pn_text.specs.Path.{Path, path_text}
 use Rattle.pn_fs.specs.Tree.{Entry, folder, file, link, Tree}
 use Rattle.pn_fs.specs.Calls.{kind_of}
 use Rattle.pn_fs.specs.declared.kind.Kind.{Kind}
-use Rattle.pn_fs.specs.declared.kind.Kind.TheVariants.{Absent, Folder, File, Link}
+use Rattle.pn_fs.specs.declared.kind.Kind.TheVariants.{Absent}
 use Rattle.pn_cmd.specs.declared.status.Status.{Status}
 use Rattle.pn_cmd.specs.declared.status.Status.TheVariants.{Memory, NotYet}
 use Rattle.pn_cmd.specs.World.{World}

@@ -1,5 +1,5 @@
 -- What a sink took.
-use Rattle.std.proofs.Common.{◌≡◌, ℕ, List, Result, Ok, Err, ap, sym, ◌∙◌, arith, inl, inr, length, take}
+use Rattle.std.proofs.Common.{◌≡◌, ℕ, List, Result, Ok, Err, ap, sym, ◌∙◌, arith, inr, length}
 use Rattle.std.proofs.Math.Seq.{take-length}
 use Rattle.pn_text.specs.Causes.{count_after}
 use Rattle.pn_text.specs.declared.fault.DevFault.{DevFault}

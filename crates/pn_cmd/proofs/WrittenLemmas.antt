@@ -1,12 +1,9 @@
 -- What is planned can be written, and what it makes of the project's tree.
-use Rattle.std.proofs.Common.{◌≡◌, ℕ, List, [], ◌∷◌, ◌++◌, refl, sym, ap, ◌∙◌, subst, Option, Some, None, inl, inr, ◌⊎◌, Bool, true, false}
+use Rattle.std.proofs.Common.{◌≡◌, List, ◌++◌, refl, sym, ◌∙◌, subst, Option, Some, None, true, false}
 use Rattle.std.specs.Prelude.{IfSome}
-use Rattle.std.specs.Option.{ForSome}
-use Rattle.std.specs.List.{Contains}
 use Rattle.pn_text.specs.Path.{Path}
-use Rattle.pn_fs.specs.Tree.{Entry, folder, Tree, IsTree, IsFree}
+use Rattle.pn_fs.specs.Tree.{folder, Tree, IsTree}
 use Rattle.pn_node.specs.Plan.{IsBuilt}
-use Rattle.pn_fs.proofs.Kept.{none_below}
 use Rattle.pn_manifest.specs.Pairs.{Pair}
 use Rattle.pn_plan.specs.declared.planned.Planned.{Planned}
 use Rattle.pn_plan.specs.declared.planned.What.{What}
@@ -19,12 +16,12 @@ use Rattle.pn_layout.specs.declared.packages.Package.{Package}
 use Rattle.pn_layout.specs.Sound.{FilesStand}
 use Rattle.pn_layout.specs.Layout.{plan_of}
 use Rattle.pn_layout.proofs.Builds.{built}
-use Rattle.pn_layout.proofs.Within.{within_from, is_within_at}
+use Rattle.pn_layout.proofs.Within.{is_within_at}
 use Rattle.pn_collect.specs.Outline.{HaveFiles}
 use Rattle.pn_cmd.specs.Names.{modules_path}
 use Rattle.pn_cmd.specs.Plans.{IsPlan}
 use Rattle.pn_cmd.specs.Lookup.{LooksUp}
-use Rattle.pn_cmd.specs.Endings.{Installs, IsInstalled}
+use Rattle.pn_cmd.specs.Endings.{Installs}
 
 -- the managed folder's place is free
 pub can_write : (t : Tree) (place : Path) (own : List Pair) (packages : List Package) (plan : List Planned) → IsTree t → t (modules_path place) ≡ None → t place ≡ Some folder → IsRising plan → IsPlan place own packages plan → IsWritable t plan

@@ -1,5 +1,5 @@
 -- What each answer rests on.
-use Rattle.std.specs.Prelude.{◌≡◌, ◌+◌, ◌⊎◌, Some, None}
+use Rattle.std.specs.Prelude.{◌≡◌, ◌+◌, ◌⊎◌, None}
 use Rattle.pn_text.specs.declared.limits.TheConstants.{FILE_LIMIT}
 use Rattle.pn_text.specs.Causes.{Rose}
 use Rattle.pn_cmd.specs.declared.status.Which.TheVariants.{Packages, File, Text, Path as PathLength, Entries}

@@ -1,5 +1,5 @@
 -- The points of an install in their order.
-use Rattle.std.specs.Prelude.{List, ◌∷◌}
+use Rattle.std.specs.Prelude.{◌∷◌}
 use Rattle.pn_text.specs.Path.{Path}
 use Rattle.pn_cmd.specs.declared.status.Status.{Status}
 use Rattle.pn_cmd.specs.World.{Trees, Shown, Inputs}

@@ -5,7 +5,7 @@ use Rattle.pn_manifest.specs.Pairs.{Pair}
 use Rattle.pn_choice.specs.declared.package.Package.{Package as Found}
 use Rattle.pn_cmd.specs.declared.ready.Ready.{Ready}
 use Rattle.pn_cmd.specs.World.{Trees, Inputs}
-use Rattle.pn_cmd.specs.Known.{Build, project_of, graph_of, build_of}
+use Rattle.pn_cmd.specs.Known.{project_of, graph_of, build_of}
 use Rattle.pn_cmd.specs.Chain.{tree, goal, install}
 
 -- It is the build that the points find, from the packages that are reached on.

@@ -2,7 +2,7 @@ use Rattle.std.proofs.Common.{refl}
 use Rattle.pn_choice.specs.Edges.{edges_by}
 use Rattle.pn_cmd.specs.World.{world}
 use Rattle.pn_cmd.specs.Points.{then}
-use Rattle.pn_cmd.specs.Known.{project_of, graph_of}
+use Rattle.pn_cmd.specs.Known.{project_of}
 use Rattle.pn_cmd.specs.Chain.{lock_at, reached_at, tree}
 use Rattle.pn_text.proofs.Results.{if_err}
 use Rattle.pn_fs.proofs.SeenLemmas.{keeps_same}
