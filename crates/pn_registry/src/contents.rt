@@ -77,7 +77,7 @@ fn files_at<R: ReadFs>(alloc: Global, registry: &mut R, at: &AbsPath) -> Result<
             Ok(()) => Ok(files),
             Err(fault) => Err(fault),
         },
-        Err(fault) => Err(fault),
+        Err(stop) => Err(stop),
     }
 }
 
