@@ -4,19 +4,14 @@
 import { readdirSync, readFileSync, statSync } from 'node:fs';
 import { createRequire } from 'node:module';
 import { join } from 'node:path';
-import { sequence } from './generated.mjs';
-import { npmFolder } from './npm.mjs';
-import { built, finish, named, run } from './program.mjs';
+import { sequence } from './lib/generated.mjs';
+import { npmFolder } from './lib/npm.mjs';
+import { part, skip } from './lib/parts.mjs';
+import { ask, built, named } from './lib/program.mjs';
 
-const skip = (why) => {
-  console.log(`check-ranges: skipped: ${why}`);
-  process.exit(0);
-};
-
-const npm = npmFolder() ?? skip('there is no npm or no folder of its packages');
-const carried = createRequire(join(npm, 'package.json'));
-
-const carriedSemver = () => {
+// The semver library that npm carries, and its release.
+const carriedSemver = (npm) => {
+  const carried = createRequire(join(npm, 'package.json'));
   try {
     return { semver: carried('semver'), release: carried('semver/package.json').version };
   } catch (e) {
@@ -25,19 +20,16 @@ const carriedSemver = () => {
   }
 };
 
-const { semver, release } = carriedSemver();
-const binary = named ?? built('range_check') ?? skip("the kit's command rt is missing");
-
 const below = sequence(20240229);
 const pick = (list) => list[below(list.length)];
 
 const number = () => pick(['0', '0', '1', '1', '2', '3', '10']);
-const part = () => (below(8) === 0 ? pick(['x', 'X', '*']) : number());
+const xr = () => (below(8) === 0 ? pick(['x', 'X', '*']) : number());
 const pre = () => pick(['-0', '-a', '-alpha.1', '-rc.2', '-1.2', '-a.b.c']);
 const partial = () => {
   const parts = 1 + below(3);
-  let text = part();
-  for (let i = 1; i < parts; i += 1) text += `.${part()}`;
+  let text = xr();
+  for (let i = 1; i < parts; i += 1) text += `.${xr()}`;
   if (parts === 3 && below(3) === 0) text += pre();
   if (parts === 3 && below(12) === 0) text += '+build.01';
   return text;
@@ -60,49 +52,49 @@ const set = () => {
 };
 const version = () => `${number()}.${number()}.${number()}${below(3) === 0 ? pre() : ''}${below(15) === 0 ? '+b' : ''}`;
 
-const pairs = [];
-for (let i = 0; i < 6000; i += 1) pairs.push([set(), version()]);
+const GENERATED = 6000;
+const generatedPairs = () => Array.from({ length: GENERATED }, () => [set(), version()]);
 
 // Odd texts, most of which are refused.
 const odd = ['01', '1.02.3', '>', '1.2.3-01', '1.2.3.4', '1-2', '>1<2', '1 -2', '1,2', 'latest', '>=1.2.3-', '1.2.3+', '||', ' || 1', '^',
   '~ 1.2', '> 1', '1.2.3 - ', '- 1', '18446744073709551615.0.0', '99999999999999999999', '1\u000b<2', '\u00a01', '1\f||2', 'v1', '=v1.2.3', '>=v1.2', '1.x.3-a', '*.1.2'];
-for (const text of odd) for (let i = 0; i < 4; i += 1) pairs.push([text, version()]);
+const oddPairs = () => odd.flatMap((text) => Array.from({ length: 4 }, () => [text, version()]));
 
-// The ranges of the manifests that npm carries.
-const manifests = (folder, depth) => {
-  const found = [];
-  for (const name of readdirSync(folder)) {
+const manifestsIn = (folder, depth) =>
+  readdirSync(folder).flatMap((name) => {
     const path = join(folder, name);
-    if (name === 'package.json') found.push(path);
-    else if (depth > 0 && statSync(path).isDirectory()) found.push(...manifests(path, depth - 1));
-  }
-  return found;
-};
-const ranges = new Set();
-// Specifiers of other kinds, which have a `:`, and texts that don't stand in a line.
-const others = new Set();
-for (const path of manifests(npm, 6)) {
-  let manifest;
+    if (name === 'package.json') return [path];
+    return depth > 0 && statSync(path).isDirectory() ? manifestsIn(path, depth - 1) : [];
+  });
+
+const parsed = (path) => {
   try {
-    manifest = JSON.parse(readFileSync(path, 'utf8'));
+    return JSON.parse(readFileSync(path, 'utf8'));
   } catch {
-    continue;
+    return {};
   }
-  for (const field of ['dependencies', 'devDependencies', 'optionalDependencies', 'peerDependencies', 'engines']) {
-    for (const text of Object.values(manifest[field] ?? {})) {
-      if (typeof text === 'string') (/[:\n]/.test(text) ? others : ranges).add(text);
-    }
-  }
-}
-for (const text of ranges) {
+};
+
+const fields = ['dependencies', 'devDependencies', 'optionalDependencies', 'peerDependencies', 'engines'];
+
+// The specifiers of the manifests that npm carries, once each: ranges, and those of other kinds, which have a `:`, or
+// don't stand in a line.
+const specifiersIn = (npm) => {
+  const manifests = manifestsIn(npm, 6).map(parsed);
+  const texts = manifests.flatMap((manifest) => fields.flatMap((field) => Object.values(manifest[field] ?? {})));
+  const all = [...new Set(texts.filter((text) => typeof text === 'string'))];
+  return { ranges: all.filter((text) => !/[:\n]/.test(text)), others: all.filter((text) => /[:\n]/.test(text)) };
+};
+
+// Versions near the numbers that a range has.
+const nearPairs = (text) => {
   const numbers = (text.match(/\d+/g) ?? ['1']).map(Number).filter((n) => n < 2 ** 32);
   const near = () => numbers[below(numbers.length)] ?? 1;
-  for (let i = 0; i < 3; i += 1) {
-    pairs.push([text, `${near() + below(2)}.${below(2) === 0 ? near() : below(10)}.${below(10)}${below(4) === 0 ? pre() : ''}`]);
-  }
-}
+  const one = () => `${near() + below(2)}.${below(2) === 0 ? near() : below(10)}.${below(10)}${below(4) === 0 ? pre() : ''}`;
+  return Array.from({ length: 3 }, () => [text, one()]);
+};
 
-const theirs = ([text, at]) => {
+const theirs = (semver, [text, at]) => {
   try {
     return String(new semver.Range(text).test(new semver.SemVer(at)));
   } catch {
@@ -118,29 +110,33 @@ const rules = [
   ['blanks other than space and tab, read there alone', (r, here, there) => here === 'refused' && there !== 'refused' && /[^\S \t]/.test(r)],
 ];
 
-const { status, out } = run(binary, [], { input: pairs.map(([r, v]) => `${r}\t${v}\n`).join('') });
-const ours = out.trimEnd().split('\n');
-const problems = [];
-if (status !== 0) problems.push(`${binary} ended with ${status}`);
-if (ours.length !== pairs.length) problems.push(`${pairs.length} pairs, ${ours.length} answers`);
-if (ranges.size === 0) problems.push('no manifest that npm carries has a range');
+// Counts the pairs that are answered alike and those that differ by a rule, and answers a line for each other one.
+const compare = (semver, pairs, ours) => {
+  const alike = new Map(['true', 'false', 'refused'].map((answer) => [answer, 0]));
+  const excused = new Map(rules.map(([name]) => [name, 0]));
+  const rise = (counts, key) => counts.set(key, counts.get(key) + 1);
+  const problems = [];
+  pairs.forEach((pair, i) => {
+    const there = theirs(semver, pair);
+    const rule = rules.find(([, applies]) => applies(pair[0], ours[i], there));
+    if (there === ours[i]) rise(alike, there);
+    else if (rule !== undefined) rise(excused, rule[0]);
+    else problems.push(`${JSON.stringify(pair[0])} ${pair[1]}: ${ours[i]} here, ${there} there`);
+  });
+  return { alike, excused, problems };
+};
 
-const counts = new Map(rules.map(([name]) => [name, 0]));
-const alike = { true: 0, false: 0, refused: 0 };
-for (let i = 0; i < pairs.length; i += 1) {
-  const answer = theirs(pairs[i]);
-  if (answer === ours[i]) {
-    alike[answer] += 1;
-    continue;
-  }
-  const rule = rules.find(([, applies]) => applies(pairs[i][0], ours[i], answer));
-  if (rule === undefined) problems.push(`${JSON.stringify(pairs[i][0])} ${pairs[i][1]}: ${ours[i]} here, ${answer} there`);
-  else counts.set(rule[0], counts.get(rule[0]) + 1);
-}
-for (const [answer, count] of Object.entries(alike)) {
-  if (count === 0) problems.push(`no pair is answered ${answer} by both`);
-}
-console.log(`check-ranges: ${pairs.length} pairs, semver ${release}, ${ranges.size} ranges of manifests, ${others.size} other specifiers left out`);
-console.log(`  alike: ${alike.true} held, ${alike.false} not held, ${alike.refused} refused`);
-for (const [name, count] of counts) console.log(`  by design: ${name}: ${count}`);
-finish('check-ranges', problems);
+part('ranges', () => {
+  const npm = npmFolder() ?? skip('there is no npm or no folder of its packages');
+  const { semver, release } = carriedSemver(npm);
+  const { ranges, others } = specifiersIn(npm);
+  const pairs = [...generatedPairs(), ...oddPairs(), ...ranges.flatMap(nearPairs)];
+  const ours = ask(named ?? built('range_check'), [], pairs.map(([text, at]) => `${text}\t${at}`));
+  const { alike, excused, problems } = compare(semver, pairs, ours);
+  for (const [answer, count] of alike) if (count === 0) problems.push(`no pair is answered ${answer} by both`);
+  if (ranges.length === 0) problems.push('no manifest that npm carries has a range');
+  for (const [name, count] of excused) console.log(`  by design: ${name}: ${count}`);
+  const same = `${alike.get('true')} held, ${alike.get('false')} not held, ${alike.get('refused')} refused by both`;
+  const what = `${pairs.length} pairs, ${ranges.length} ranges of npm's manifests (${others.length} other specifiers left out), semver ${release}: ${same}`;
+  return { compared: pairs.length, what, problems };
+});

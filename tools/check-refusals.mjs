@@ -4,10 +4,11 @@
 import { spawnSync } from 'node:child_process';
 import { closeSync, openSync, truncateSync } from 'node:fs';
 import { join } from 'node:path';
-import { installedTree, reached } from './packages.mjs';
-import { build, finish, program, report, run } from './program.mjs';
-import { cases } from './refusals.mjs';
-import { differences, entriesOf, put, temporary } from './trees.mjs';
+import { installedTree, reached } from './lib/packages.mjs';
+import { part } from './lib/parts.mjs';
+import { program, report, run } from './lib/program.mjs';
+import { cases } from './lib/refusals.mjs';
+import { differences, entriesOf, put, temporary } from './lib/trees.mjs';
 
 const ONE_PART = 201;
 
@@ -74,13 +75,8 @@ const check = (one) => {
   return problems.map((line) => `${one.title}: ${line}`);
 };
 
-try {
-  build();
+part('refusals', () => {
   const problems = cases.flatMap(check);
   const installed = cases.filter(({ status }) => status === 0);
-  console.log(`check-refusals: ${cases.length} projects, ${installed.length} of which are installed`);
-  finish('check-refusals', problems);
-} catch (e) {
-  console.log(`check-refusals: ${e.message}`);
-  process.exitCode = 1;
-}
+  return { compared: cases.length, what: `${cases.length} projects, ${installed.length} of which are installed`, problems };
+});

@@ -3,12 +3,13 @@
 // Usage: node tools/check-with-node.mjs [PROGRAM]
 import { cpSync, readFileSync, symlinkSync } from 'node:fs';
 import { basename, join } from 'node:path';
-import { generate } from './generated.mjs';
-import { compareLoads, compareLookup, compareOdd, questionsOf } from './lookups.mjs';
-import { npmFolder } from './npm.mjs';
-import { installedTree, isExact, isName, reached, readManifest } from './packages.mjs';
-import { build, built, finish, program, report, run, top } from './program.mjs';
-import { differences, entriesOf, put, temporary } from './trees.mjs';
+import { generate } from './lib/generated.mjs';
+import { compareLoads, compareLookup, compareOdd, questionsOf } from './lib/lookups.mjs';
+import { npmFolder } from './lib/npm.mjs';
+import { installedTree, isExact, isName, reached, readManifest } from './lib/packages.mjs';
+import { part, skip } from './lib/parts.mjs';
+import { built, program, report, run, top } from './lib/program.mjs';
+import { differences, entriesOf, put, temporary } from './lib/trees.mjs';
 
 // Installs the project, and compares the report, the tree, and what else the project's folder has.
 const install = (project, registry, env) => {
@@ -23,7 +24,12 @@ const install = (project, registry, env) => {
   return { packages, problems };
 };
 
-const tell = (what, packages, questions) => console.log(`${what}: ${packages.length} packages, ${questions.length} lookups`);
+// What a part answers: it has compared each package and each lookup.
+const ended = (packages, questions, problems) => ({
+  compared: Math.min(packages.length, questions.length),
+  what: `${packages.length} packages, ${questions.length} lookups`,
+  problems,
+});
 
 // The names of a registry's packages.
 const namesIn = (registry) => {
@@ -58,8 +64,8 @@ const checkDemo = (findCheck) => {
   const registry = join(project, 'pnpm-rs-registry');
   const { packages, problems } = install(project, registry, {});
   const questions = questionsOf(project, packages, [...namesIn(registry), ...strange]);
-  tell('the demo', packages, questions);
-  return [...problems, ...compareLookup(questions, findCheck), ...compareLoads(questions), ...compareOutput(project)];
+  problems.push(...compareLookup(questions, findCheck), ...compareLoads(questions), ...compareOutput(project));
+  return ended(packages, questions, problems);
 };
 
 const GENERATED = 20;
@@ -69,8 +75,8 @@ const checkGenerated = (findCheck) => {
   const seeds = Array.from({ length: GENERATED }, (_, i) => i + 1);
   const all = seeds.map(checkSeed);
   const questions = all.flatMap((one) => one.questions);
-  tell(`${GENERATED} generated projects`, all.flatMap(({ packages }) => packages), questions);
-  return [...all.flatMap(({ problems }) => problems), ...compareLookup(questions, findCheck)];
+  const problems = [...all.flatMap((one) => one.problems), ...compareLookup(questions, findCheck)];
+  return ended(all.flatMap(({ packages }) => packages), questions, problems);
 };
 
 const checkSeed = (seed) => {
@@ -128,11 +134,7 @@ const makeProject = (project, registry, plain) => {
 };
 
 const checkCarried = (findCheck) => {
-  const npm = npmFolder();
-  if (npm === undefined) {
-    console.log("npm's packages: skipped, there is no npm or no folder of its packages");
-    return [];
-  }
+  const npm = npmFolder() ?? skip('there is no npm or no folder of its packages');
   const folder = temporary();
   const [project, registry] = [join(folder, 'project'), join(folder, 'registry')];
   const made = run(process.execPath, [join(top, 'tools', 'make-registry.mjs'), join(npm, 'node_modules'), registry]);
@@ -142,21 +144,10 @@ const checkCarried = (findCheck) => {
   if (made.status !== 0) problems.push(`make-registry ended with ${made.status}: ${made.err.trim()}`);
   const questions = questionsOf(project, packages, [...plain.map(([name]) => name), ...strange]);
   if (plain.length === 0) problems.push('npm carries no package that needs nothing');
-  tell("npm's packages", packages, questions);
-  return [...problems, ...compareLookup(questions, findCheck)];
+  return ended(packages, questions, [...problems, ...compareLookup(questions, findCheck)]);
 };
 
-const checkOdd = (findCheck) => {
-  if (findCheck !== undefined) return compareOdd(findCheck);
-  console.log("find_check: skipped, the kit's command rt is missing");
-  return [];
-};
-
-try {
-  build();
-  const findCheck = built('find_check');
-  finish('check-with-node', [checkDemo, checkGenerated, checkCarried, checkOdd].flatMap((check) => check(findCheck)));
-} catch (e) {
-  console.log(`check-with-node: ${e.message}`);
-  process.exitCode = 1;
-}
+part('the demo', () => checkDemo(built('find_check')));
+part(`${GENERATED} generated projects`, () => checkGenerated(built('find_check')));
+part("npm's packages", () => checkCarried(built('find_check')));
+part('an odd tree', () => compareOdd(built('find_check')));

@@ -212,7 +212,7 @@ def ask(program, texts):
     ended = subprocess.run([program], input=lines.encode(), stdout=subprocess.PIPE, check=True)
     answers = ended.stdout.decode().split("\n")[:-1]
     if len(answers) != len(texts):
-        raise SystemExit(f"check-yaml: {len(texts)} texts, {len(answers)} answers")
+        raise RuntimeError(f"{len(texts)} texts, {len(answers)} answers")
     return answers
 
 
@@ -269,9 +269,8 @@ def compare_subset(yaml, program, rnd):
             unlike += 1
         elif theirs(yaml, printed) != wanted:
             problems.append(f"what is printed of {text!r}: {printed!r}")
-    print(f"check-yaml: {len(texts)} generated texts, {sum(len(text) for text, _ in texts)} characters")
     print(f"  by design: {OTHER_ENDS_RULE}, so what is printed isn't compared: {unlike}")
-    return problems
+    return len(texts) - unlike, f"{len(texts)} texts, {sum(len(text) for text, _ in texts)} characters", problems
 
 
 def kinds(ours, data):
@@ -357,41 +356,53 @@ def compare_changed(yaml, program, rnd):
             problems.append(f"{text!r}: read here, {data!r} there")
     unlike, rules = excuse(yaml, program, differing[:MOST])
     problems += [f"{text!r}: read unlike, past the first {MOST} texts" for text in differing[MOST:]]
-    print(f"check-yaml: {len(texts)} changed texts: {alike} read alike, {len(differing)} read unlike, {neither} read by neither")
     for what, counts in (("by design", rules), ("read here alone, there", here), ("read there alone, here", there)):
         for name, count in counts.items():
             print(f"  {what}: {name}: {count}")
-    if alike == 0 or neither == 0:
-        problems.append("no changed text was read alike, or none was read by neither")
-    return problems + unlike
+    what = f"{len(texts)} texts: {alike} read alike, {len(differing)} read unlike by design, {neither} read by neither"
+    return min(alike, neither), what, problems + unlike
 
 
 def built():
-    """The path of the program, which is built first where it isn't yet or a source is newer; None without the kit's command."""
-    ended = subprocess.run([os.path.join(TOP, "tools", "built.sh"), "yaml_check"], stdout=subprocess.PIPE, stderr=subprocess.PIPE)
-    if ended.returncode == 127:
-        return None
+    """The path of the program: the shipped one, or one that is built first, which standard error tells of."""
+    ended = subprocess.run([os.path.join(TOP, "tools", "built.sh"), "yaml_check"], stdout=subprocess.PIPE)
     if ended.returncode != 0:
-        raise SystemExit(f"check-yaml: yaml_check can't be built: {ended.stderr.decode()}")
+        raise RuntimeError("yaml_check can't be built")
     return ended.stdout.decode()[:-1]
+
+
+def part(title, compare, *given):
+    """Runs a part of the check, and tells in a line how it ended, which tools/test.sh counts. Answers whether it passed."""
+    try:
+        compared, what, problems = compare(*given)
+    except (RuntimeError, OSError, subprocess.SubprocessError) as e:
+        compared, what, problems = 0, "", [str(e)]
+    for line in problems[:30]:
+        print(f"  differs: {line}")
+    if problems:
+        print(f"failed: {title}: {len(problems)} differences")
+    elif compared == 0:
+        print(f"failed: {title}: nothing was compared")
+    else:
+        print(f"passed: {title}: {what}")
+    return compared > 0 and not problems
 
 
 def main():
     try:
         import yaml
     except ImportError:
-        print("check-yaml: skipped: python has no yaml library")
+        print("skipped: YAML: python has no yaml library")
         return 0
-    program = os.path.abspath(sys.argv[1]) if len(sys.argv) > 1 else built()
-    if program is None:
-        print("check-yaml: skipped: the kit's command rt is missing")
-        return 0
+    try:
+        program = os.path.abspath(sys.argv[1]) if len(sys.argv) > 1 else built()
+    except RuntimeError as e:
+        print(f"failed: YAML: {e}")
+        return 1
     rnd = random.Random(20240229)
-    problems = compare_subset(yaml, program, rnd) + compare_changed(yaml, program, rnd)
-    for line in problems[:30]:
-        print(f"  differs: {line}")
-    print(f"check-yaml: {len(problems)} differences")
-    return 0 if not problems else 1
+    is_well = part("YAML texts of the subset", compare_subset, yaml, program, rnd)
+    is_well = part("YAML texts that are changed at random", compare_changed, yaml, program, rnd) and is_well
+    return 0 if is_well else 1
 
 
 if __name__ == "__main__":

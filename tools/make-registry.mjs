@@ -4,8 +4,8 @@
 // is. Ends with 1 where a package was left out.
 import { copyFileSync, existsSync, lstatSync, mkdirSync, readdirSync, renameSync, rmSync } from 'node:fs';
 import { dirname, join } from 'node:path';
-import { inModules, isExact, isName, readManifest } from './packages.mjs';
-import { differences, entriesOf } from './trees.mjs';
+import { inModules, isExact, isName, readManifest } from './lib/packages.mjs';
+import { differences, entriesOf } from './lib/trees.mjs';
 
 const usage = `usage: make-registry.mjs FROM TO
   FROM  a node_modules folder

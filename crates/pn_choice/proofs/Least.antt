@@ -1,24 +1,26 @@
 -- The packages that were met are the least set that is closed under dependencies.
-use Rattle.std.proofs.Common.{◌≡◌, ◌≤◌, ◌<◌, ℕ, suc, zero, List, [], ◌∷◌, ◌++◌, true, false, not, cond, Option, Some, length, map, take, get_or, refl, sym, ap, ◌∙◌, subst, arith, codes, add-one}
+use Rattle.std.proofs.Common.{◌≡◌, ◌≤◌, ◌<◌, ℕ, suc, zero, List, [], ◌∷◌, true, false, not, cond, Option, Some, length, map, take, get_or, refl, sym, ap, ◌∙◌, subst, arith, codes, add-one}
 use Rattle.std.specs.List.{All, Contains}
 use Rattle.std.proofs.lemmas.List.{take_all}
 use Rattle.std.proofs.lemmas.List.Elements.{All-nil, All-cons, All-head, All-tail, All-append, All-weaker, All-map, All-contains, All-contains_itself, All-filter, All-get_or, All-more, All-take, filter_passes, Contains-append_right}
 use Rattle.serde_json.specs.Data.{Data}
 use Rattle.pn_text.specs.declared.ids.Edge.{Edge}
+use Rattle.pn_text.proofs.Members.{All-left, All-right, All-unmap}
 use Rattle.pn_fs.specs.Tree.{Tree}
 use Rattle.pn_manifest.specs.Exact.{Id}
 use Rattle.pn_manifest.specs.Pairs.{Pair}
 use Rattle.pn_manifest.specs.Fields.{edges_of}
 use Rattle.pn_registry.specs.Places.{manifest_path}
 use Rattle.pn_registry.specs.Package.{IsText}
-use Rattle.pn_choice.specs.Edges.{id_of, id_text, target, targets, edge_of, edges_from, package_edges, edges_in, all_edges}
+use Rattle.pn_registry.proofs.ManifestLawLemmas.{text_once}
+use Rattle.pn_choice.specs.Edges.{id_of, target, targets, edge_of, edges_from, package_edges, edges_in, all_edges}
 use Rattle.pn_choice.specs.Firsts.{same_id, without, firsts, IsDistinct}
 use Rattle.pn_choice.specs.Found.{IsPackage}
 use Rattle.pn_choice.specs.Walked.{Walked}
 use Rattle.pn_choice.specs.Reaches.{Reaches, direct, through, pair_id, ReachLaw}
 use Rattle.pn_choice.specs.declared.package.Package.{Package}
 use Rattle.pn_choice.proofs.Once.{same_id-is, same_id-refl}
-use Rattle.pn_choice.proofs.Sequences.{IsMet, met_reached, next_id, text_once}
+use Rattle.pn_choice.proofs.Sequences.{IsMet, met_reached, next_id}
 
 -- each first is one of the list
 firsts_from : (xs : List Id) → All (Contains xs) (firsts xs)
@@ -78,7 +80,7 @@ edges_reach t own (q ∷ ps) found reached =
     let here = All-head (IsPackage (Some t)) q ps found in
     let at = All-head (λ (q : Package). Reaches t own q.id) q ps reached in
     All-append (λ e. Reaches t own (target e)) (package_edges q) (edges_in ps)
-    (All-map (λ e. Reaches t own (target e)) (edge_of (id_text q.id)) q.dependencies
+    (All-map (λ e. Reaches t own (target e)) (edge_of q.id) q.dependencies
     (All-weaker (Contains q.dependencies) (λ p. Reaches t own (pair_id p)) (λ p c. through q.id here.value p at here.manifest.text (subst (λ (l : List Pair). Contains l p) here.edges c)) q.dependencies (All-contains_itself q.dependencies)))
     (edges_reach t own ps (All-tail (IsPackage (Some t)) q ps found) (All-tail (λ (q : Package). Reaches t own q.id) q ps reached))
 
@@ -109,18 +111,6 @@ pub sound : (t : Tree) (own : List Pair) (met : List Package) → IsMet t own me
 sound t own [] h = All-nil (λ (q : Package). Reaches t own q.id)
 sound t own (p ∷ ps) h = subst (All (λ (q : Package). Reaches t own q.id)) (take_all (length (p ∷ ps)) (p ∷ ps) (omega arith)) (up_to t own (p ∷ ps) p h (length (p ∷ ps)) (omega arith))
 
-All-unmap : {X Y : Type 0} (P : X → Type 0) (f : Y → X) (ys : List Y) → All P (map f ys) → All (λ y. P (f y)) ys
-All-unmap P f [] h = All-nil (λ y. P (f y))
-All-unmap P f (y ∷ ys) h = All-cons (λ y. P (f y)) y ys (All-head P (f y) (map f ys) h) (All-unmap P f ys (All-tail P (f y) (map f ys) h))
-
-All-left : {X : Type 0} (P : X → Type 0) (xs ys : List X) → All P (xs ++ ys) → All P xs
-All-left P [] ys h = All-nil P
-All-left P (x ∷ xs) ys h = All-cons P x xs (All-head P x (xs ++ ys) h) (All-left P xs ys (All-tail P x (xs ++ ys) h))
-
-pub All-right : {X : Type 0} (P : X → Type 0) (xs ys : List X) → All P (xs ++ ys) → All P ys
-All-right P [] ys h = h
-All-right P (x ∷ xs) ys h = All-right P xs ys (All-tail P x (xs ++ ys) h)
-
 -- The dependencies of the package are among the ids.
 Closed : Tree → List Id → Id → Type 0
 Closed t ids i = (v : Data) (e : Pair) → IsText (t (manifest_path i)) v → Contains (edges_of v) e → Contains ids (pair_id e)
@@ -130,7 +120,7 @@ unfolding Closed
 closed t ids [] found led = All-nil (λ (q : Package). Closed t ids q.id)
 closed t ids (q ∷ ps) found led =
     let here = All-head (IsPackage (Some t)) q ps found in
-    let own = All-unmap (λ e. Contains ids (target e)) (edge_of (id_text q.id)) q.dependencies (All-left (λ e. Contains ids (target e)) (package_edges q) (edges_in ps) led) in
+    let own = All-unmap (λ e. Contains ids (target e)) (edge_of q.id) q.dependencies (All-left (λ e. Contains ids (target e)) (package_edges q) (edges_in ps) led) in
     All-cons (λ (q : Package). Closed t ids q.id) q ps
     (λ v e text c.
     let same : q.dependencies ≡ edges_of v = here.edges ∙ ap edges_of (text_once (t (manifest_path q.id)) here.value v here.manifest.text text) in

@@ -1,24 +1,16 @@
 -- Ids, each once, and one more.
 use Rattle.std.proofs.Common.{◌≡◌, ◌<◌, ℕ, zero, suc, List, [], ◌∷◌, ◌++◌, Bool, true, false, not, ◌||◌, cond, length, get_or, refl, sym, ap, ◌∙◌, subst, arith, append_assoc}
-use Rattle.std.specs.Str.{bytes_eq}
 use Rattle.std.proofs.lemmas.Slice.Eq.{bytes_eq-Decides}
 use Rattle.std.proofs.lemmas.List.{append-nil}
 use Rattle.std.proofs.lemmas.List.Elements.{filter-append}
-use Rattle.semver.proofs.Segments.{and-left, and-right}
 use Rattle.pn_manifest.specs.Exact.{Id}
 use Rattle.pn_choice.specs.Firsts.{same_id, without, firsts, is_in}
 
 pub same_id-is : (a b : Id) → same_id a b ≡ true → a ≡ b
-same_id-is a b h =
-    let n : a.name ≡ b.name = (bytes_eq-Decides a.name b.name).0 (and-left _ (bytes_eq a.version b.version) h) in
-    let v : a.version ≡ b.version = (bytes_eq-Decides a.version b.version).0 (and-right (bytes_eq a.name b.name) _ h) in
-    ap (λ (x : List ℕ). record { name = x; version = a.version }) n ∙ ap (λ (x : List ℕ). record { name = b.name; version = x }) v
+same_id-is a b h = (bytes_eq-Decides a b).0 h
 
 pub same_id-refl : (a : Id) → same_id a a ≡ true
-same_id-refl a =
-    let n : bytes_eq a.name a.name ≡ true = (bytes_eq-Decides a.name a.name).1 refl in
-    let v : bytes_eq a.version a.version ≡ true = (bytes_eq-Decides a.version a.version).1 refl in
-    rw (n, v) refl
+same_id-refl a = (bytes_eq-Decides a a).1 refl
 
 one_without : (x y : Id) (b : Bool) → same_id x y ≡ b → without x (y ∷ []) ≡ cond b [] (y ∷ [])
 one_without x y true h = rw h refl

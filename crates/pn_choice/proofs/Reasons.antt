@@ -1,61 +1,35 @@
 -- An edge has one cause to be refused, and none where it leads to a right package.
-use Rattle.std.proofs.Common.{◌≡◌, ◌≤◌, ◌<◌, ℕ, List, Bool, false, true, Option, Some, None, length, map, refl, sym, ap, ◌∙◌, subst, arith, inl, inr}
+use Rattle.std.proofs.Common.{◌≡◌, ◌≤◌, ◌+◌, ℕ, List, false, true, Option, Some, None, length, map, sym, ap, ◌∙◌, subst, arith, inl, inr}
 use Rattle.std.specs.List.{All}
 use Rattle.std.proofs.lemmas.List.Elements.{All-map, All-weaker}
 use Rattle.serde_json.specs.Data.{Data}
 use Rattle.pn_text.specs.declared.ids.Edge.{Edge}
-use Rattle.pn_fs.specs.Tree.{Tree, Entry, file}
+use Rattle.pn_text.specs.declared.limits.TheConstants.{ID_LIMIT}
+use Rattle.pn_text.proofs.Bools.{true_false}
+use Rattle.pn_fs.specs.Tree.{Tree}
 use Rattle.pn_manifest.specs.Exact.{Id, is_exact}
-use Rattle.pn_manifest.specs.Fields.{Spot, first_later}
-use Rattle.pn_manifest.specs.Text.{IsObjectText}
+use Rattle.pn_manifest.specs.Fields.{first_later}
+use Rattle.pn_manifest.specs.declared.fault.ManifestWhy.{ManifestWhy}
 use Rattle.pn_registry.specs.Places.{manifest_path}
-use Rattle.pn_registry.specs.Package.{first_wrong_of, IsText, text_limit}
-use Rattle.pn_registry.specs.PackageFaults.{IsNoText}
-use Rattle.pn_read.specs.Small.{IsFileOf}
-use Rattle.pn_choice.specs.Edges.{id_of, id_text, target}
-use Rattle.pn_choice.specs.Found.{HasFolder, HasManifest, IsPackage, IsNoManifest, NoPackage, NotBuilt}
+use Rattle.pn_choice.specs.Edges.{id_of, target}
+use Rattle.pn_choice.specs.Found.{HasManifest, IsPackage, IsNoManifest, NoPackage, NotBuilt}
 use Rattle.pn_choice.specs.Refusals.{IsFull, EdgeRefused}
+use Rattle.pn_choice.specs.Walked.{package_limit}
 use Rattle.pn_choice.specs.declared.package.Package.{Package}
-use Rattle.pn_choice.specs.declared.fault.PackageWhy.{PackageWhy}
-use Rattle.pn_choice.specs.declared.fault.PackageWhy.TheVariants.{Missing, NotJson, BadField}
 use Rattle.pn_choice.specs.declared.fault.ReachFault.{ReachFault}
 use Rattle.pn_choice.specs.declared.fault.ReachFault.TheVariants.{NotYet, NoVersion, TextLimit, Manifest, Packages, Fault, Memory}
-use Rattle.pn_choice.proofs.Sequences.{text_once}
-
-file_once : (e : Option Entry) (x y : List ℕ) → e ≡ Some (file x) → e ≡ Some (file y) → x ≡ y
-file_once e x y a b = cc
-
--- a file with a text isn't too long
-not_long : (e : Option Entry) (d : Data) (n : ℕ) → IsText e d → text_limit < n → IsFileOf n e → ⊥
-not_long e d n text long f =
-    let bytes = file_once e text.bytes f.0 text.is f.1 in
-    absurd (omega (arith, long, f.2, ap length bytes, text.short))
-
-not_unreadable : (e : Option Entry) (d : Data) → IsText e d → IsNoText e → ⊥
-not_unreadable e d text h =
-    let bytes = file_once e text.bytes h.bytes text.is h.is in
-    h.none d (subst (λ (b : List ℕ). IsObjectText b d) bytes text.text)
-
-none_some : {A : Type 0} (o : Option A) (x : A) → o ≡ None → o ≡ Some x → ⊥
-none_some o x a b = cc
-
-true_false : (b : Bool) → b ≡ true → b ≡ false → ⊥
-true_false b x y = cc
+use Rattle.pn_registry.proofs.ManifestLawLemmas.{none_some, text_once, not_long, not_wrong, one_wrong, long_there, one_length}
 
 -- a right manifest is there
-right_there : (t : Tree) (i : Id) (d : Data) (why : PackageWhy) → HasManifest (Some t) i d → IsNoManifest (Some t) i why → ⊥
-right_there t i d Missing m h = h m.text.bytes m.text.is
-right_there t i d NotJson m h = not_unreadable (t (manifest_path i)) d m.text h
-right_there t i d (BadField f k) m h =
-    let value = text_once (t (manifest_path i)) d h.value m.text h.text in
-    none_some (first_wrong_of i h.value) (f, k) (ap (first_wrong_of i) (sym value) ∙ m.right) h.wrong
+right_there : (t : Tree) (i : Id) (d : Data) (why : ManifestWhy) → HasManifest (Some t) i d → IsNoManifest (Some t) i why → ⊥
+right_there t i d why m h = not_wrong i (t (manifest_path i)) d why m.text m.right h
 
 -- A package stands there whose manifest is right and built.
 pub record IsRight (t : Tree) (i : Id) : Type 0 where
   pub value : Data
   pub manifest : HasManifest (Some t) i value
   pub built : first_later value ≡ None
-  pub short : length (id_text i) ≤ 120
+  pub short : length i ≤ ID_LIMIT
 
 right_of : (t : Tree) (p : Package) → IsPackage (Some t) p → IsRight t (id_of p)
 right_of t p h = record { value = h.value; manifest = h.manifest; built = h.built; short = h.short }
@@ -63,26 +37,26 @@ right_of t p h = record { value = h.value; manifest = h.manifest; built = h.buil
 pub all_right : (t : Tree) (ps : List Package) → All (IsPackage (Some t)) ps → All (IsRight t) (map id_of ps)
 all_right t ps found = All-map (IsRight t) id_of ps (All-weaker (IsPackage (Some t)) (λ p. IsRight t (id_of p)) (right_of t) ps found)
 
-not_unbuilt : (later : Option (List ℕ)) (i : Id) (text : List ℕ) → later ≡ None → length (id_text i) ≤ 120 → NotBuilt later i text → ⊥
+not_unbuilt : (later : Option (List ℕ)) (i : Id) (text : List ℕ) → later ≡ None → length i ≤ ID_LIMIT → NotBuilt later i text → ⊥
 not_unbuilt later i text built short (inl is) = none_some later text built is
 not_unbuilt later i text built short (inr long) = absurd (omega (arith, long.1, short))
 
-no_reason : (t : Tree) (e : Edge) (fault : ReachFault) → IsRight t (target e) → NoPackage (Some t) e fault → ⊥
-no_reason t e (NotYet text) r h =
-    let value = text_once (t (manifest_path (target e))) r.value h.0 r.manifest.text h.1.text in
-    not_unbuilt (first_later h.0) (target e) text (ap first_later (sym value) ∙ r.built) r.short h.2
-no_reason t e (NoVersion at) r h = h.1 r.manifest.stands
-no_reason t e (TextLimit n) r h = not_long (t (manifest_path (target e))) r.value n r.manifest.text h.1 h.2
-no_reason t e (Manifest id why) r h = right_there t (target e) r.value why r.manifest (subst (λ (i : Id). IsNoManifest (Some t) i why) h.0 h.2)
-no_reason t e (Packages n) r h = h
-no_reason t e Fault r h = h
-no_reason t e Memory r h = h
+no_reason : (t : Tree) (e : Edge) (i : Id) (fault : ReachFault) → IsRight t i → NoPackage (Some t) e i fault → ⊥
+no_reason t e i (NotYet text) r h =
+    let value = text_once (t (manifest_path i)) r.value h.0 r.manifest.text h.1.text in
+    not_unbuilt (first_later h.0) i text (ap first_later (sym value) ∙ r.built) r.short h.2
+no_reason t e i (NoVersion at) r h = h.1 r.manifest.stands
+no_reason t e i (TextLimit n) r h = not_long (t (manifest_path i)) r.value n r.manifest.text h.1 h.2
+no_reason t e i (Manifest id why) r h = right_there t i r.value why r.manifest h.2
+no_reason t e i (Packages n) r h = h
+no_reason t e i Fault r h = h
+no_reason t e i Memory r h = h
 
 -- Why an edge is refused: its specifier, its package, or the limit.
 data Why (t : Tree) (met : List Package) (e : Edge) (fault : ReachFault) : Type 0 where
   inexact : is_exact e.specifier ≡ false → fault ≡ NotYet e.specifier → Why t met e fault
-  gone : is_exact e.specifier ≡ true → NoPackage (Some t) e fault → Why t met e fault
-  full : IsFull (Some t) met e → fault ≡ Packages 16385 → Why t met e fault
+  gone : is_exact e.specifier ≡ true → NoPackage (Some t) e (target e) fault → Why t met e fault
+  full : IsFull (Some t) met e → fault ≡ Packages (package_limit + 1) → Why t met e fault
 
 why : (t : Tree) (met : List Package) (e : Edge) (fault : ReachFault) → EdgeRefused (Some t) met e fault → Why t met e fault
 why t met e (NotYet text) (inl h) = inexact h.0 (ap NotYet h.1)
@@ -98,7 +72,7 @@ why t met e Memory h = absurd h
 pub no_edge : (t : Tree) (met : List Package) (e : Edge) (fault : ReachFault) → is_exact e.specifier ≡ true → IsRight t (target e) → (IsFull (Some t) met e → ⊥) → EdgeRefused (Some t) met e fault → ⊥
 no_edge t met e fault exact r room h = elim (why t met e fault h) [
   | inexact other is ↦ true_false (is_exact e.specifier) exact other
-  | gone exact reason ↦ no_reason t e fault r reason
+  | gone exact reason ↦ no_reason t e (target e) fault r reason
   | full f is ↦ room f
 ]
 
@@ -108,63 +82,32 @@ one_unbuilt later i a b (inl x) (inr y) = absurd (none_some later a y.0 x)
 one_unbuilt later i a b (inr x) (inl y) = absurd (none_some later b x.0 y)
 one_unbuilt later i a b (inr x) (inr y) = x.2 ∙ sym y.2
 
-one_spot : (o : Option Spot) (a b : Spot) → o ≡ Some a → o ≡ Some b → BadField a.0 a.1 ≡ BadField b.0 b.1
-one_spot o a b x y =
-    let same : a ≡ b = cc in
-    ap (λ (s : Spot). BadField s.0 s.1) same
-
-one_why : (t : Tree) (i : Id) (v w : PackageWhy) → IsNoManifest (Some t) i v → IsNoManifest (Some t) i w → v ≡ w
-one_why t i Missing Missing x y = refl
-one_why t i Missing NotJson x y = absurd (x y.bytes y.is)
-one_why t i Missing (BadField g l) x y = absurd (x y.text.bytes y.text.is)
-one_why t i NotJson Missing x y = absurd (y x.bytes x.is)
-one_why t i NotJson NotJson x y = refl
-one_why t i NotJson (BadField g l) x y = absurd (not_unreadable (t (manifest_path i)) y.value y.text x)
-one_why t i (BadField f k) Missing x y = absurd (y x.text.bytes x.text.is)
-one_why t i (BadField f k) NotJson x y = absurd (not_unreadable (t (manifest_path i)) x.value x.text y)
-one_why t i (BadField f k) (BadField g l) x y =
-    let value = text_once (t (manifest_path i)) x.value y.value x.text y.text in
-    one_spot (first_wrong_of i y.value) (f, k) (g, l) (ap (first_wrong_of i) (sym value) ∙ x.wrong) y.wrong
-
--- a file that is too long has no text that could be wrong
-long_there : (t : Tree) (i : Id) (n : ℕ) (w : PackageWhy) → text_limit < n → IsFileOf n (t (manifest_path i)) → IsNoManifest (Some t) i w → ⊥
-long_there t i n Missing long f h = h f.0 f.1
-long_there t i n NotJson long f h =
-    let bytes = file_once (t (manifest_path i)) h.bytes f.0 h.is f.1 in
-    absurd (omega (arith, long, f.2, ap length bytes, h.short))
-long_there t i n (BadField g l) long f h = not_long (t (manifest_path i)) h.value n h.text long f
-
--- what is said of an id holds at an edge to it
-at_target : (t : Tree) (e : Edge) (id : Id) (w : PackageWhy) → id ≡ target e → IsNoManifest (Some t) id w → IsNoManifest (Some t) (target e) w
-at_target t e id w is h = subst (λ (i : Id). IsNoManifest (Some t) i w) is h
-
-one_reason : (t : Tree) (e : Edge) (f g : ReachFault) → NoPackage (Some t) e f → NoPackage (Some t) e g → f ≡ g
-one_reason t e (NotYet a) (NotYet b) x y =
-    let value = text_once (t (manifest_path (target e))) x.0 y.0 x.1.text y.1.text in
-    ap NotYet (one_unbuilt (first_later y.0) (target e) a b (subst (λ (d : Data). NotBuilt (first_later d) (target e) a) value x.2) y.2)
-one_reason t e (NotYet a) (NoVersion at) x y = absurd (y.1 x.1.stands)
-one_reason t e (NotYet a) (TextLimit n) x y = absurd (not_long (t (manifest_path (target e))) x.0 n x.1.text y.1 y.2)
-one_reason t e (NotYet a) (Manifest id w) x y = absurd (right_there t (target e) x.0 w x.1 (at_target t e id w y.0 y.2))
-one_reason t e (NoVersion at) (NotYet b) x y = absurd (x.1 y.1.stands)
-one_reason t e (NoVersion at) (NoVersion bt) x y = ap NoVersion (x.0 ∙ sym y.0)
-one_reason t e (NoVersion at) (TextLimit n) x y = absurd (x.1 y.0)
-one_reason t e (NoVersion at) (Manifest id w) x y = absurd (x.1 (subst (HasFolder (Some t)) y.0 y.1))
-one_reason t e (TextLimit n) (NotYet b) x y = absurd (not_long (t (manifest_path (target e))) y.0 n y.1.text x.1 x.2)
-one_reason t e (TextLimit n) (NoVersion bt) x y = absurd (y.1 x.0)
-one_reason t e (TextLimit n) (TextLimit m) x y = ap TextLimit (x.2.2 ∙ ap length (file_once (t (manifest_path (target e))) x.2.0 y.2.0 x.2.1 y.2.1) ∙ sym y.2.2)
-one_reason t e (TextLimit n) (Manifest id w) x y = absurd (long_there t (target e) n w x.1 x.2 (at_target t e id w y.0 y.2))
-one_reason t e (Manifest id w) (NotYet b) x y = absurd (right_there t (target e) y.0 w y.1 (at_target t e id w x.0 x.2))
-one_reason t e (Manifest id w) (NoVersion bt) x y = absurd (y.1 (subst (HasFolder (Some t)) x.0 x.1))
-one_reason t e (Manifest id w) (TextLimit n) x y = absurd (long_there t (target e) n w y.1 y.2 (at_target t e id w x.0 x.2))
-one_reason t e (Manifest id v) (Manifest other w) x y =
-    let whys = one_why t (target e) v w (at_target t e id v x.0 x.2) (at_target t e other w y.0 y.2) in
-    ap (λ (i : Id). Manifest i v) (x.0 ∙ sym y.0) ∙ ap (Manifest other) whys
-one_reason t e (Packages n) g x y = absurd x
-one_reason t e Fault g x y = absurd x
-one_reason t e Memory g x y = absurd x
-one_reason t e f (Packages n) x y = absurd y
-one_reason t e f Fault x y = absurd y
-one_reason t e f Memory x y = absurd y
+one_reason : (t : Tree) (e : Edge) (i : Id) (f g : ReachFault) → NoPackage (Some t) e i f → NoPackage (Some t) e i g → f ≡ g
+one_reason t e i (NotYet a) (NotYet b) x y =
+    let value = text_once (t (manifest_path i)) x.0 y.0 x.1.text y.1.text in
+    ap NotYet (one_unbuilt (first_later y.0) i a b (subst (λ (d : Data). NotBuilt (first_later d) i a) value x.2) y.2)
+one_reason t e i (NotYet a) (NoVersion at) x y = absurd (y.1 x.1.stands)
+one_reason t e i (NotYet a) (TextLimit n) x y = absurd (not_long (t (manifest_path i)) x.0 n x.1.text y.1 y.2)
+one_reason t e i (NotYet a) (Manifest id w) x y = absurd (right_there t i x.0 w x.1 y.2)
+one_reason t e i (NoVersion at) (NotYet b) x y = absurd (x.1 y.1.stands)
+one_reason t e i (NoVersion at) (NoVersion bt) x y = ap NoVersion (x.0 ∙ sym y.0)
+one_reason t e i (NoVersion at) (TextLimit n) x y = absurd (x.1 y.0)
+one_reason t e i (NoVersion at) (Manifest id w) x y = absurd (x.1 y.1)
+one_reason t e i (TextLimit n) (NotYet b) x y = absurd (not_long (t (manifest_path i)) y.0 n y.1.text x.1 x.2)
+one_reason t e i (TextLimit n) (NoVersion bt) x y = absurd (y.1 x.0)
+one_reason t e i (TextLimit n) (TextLimit m) x y = ap TextLimit (one_length (t (manifest_path i)) n m x.2 y.2)
+one_reason t e i (TextLimit n) (Manifest id w) x y = absurd (long_there i (t (manifest_path i)) n w x.1 x.2 y.2)
+one_reason t e i (Manifest id w) (NotYet b) x y = absurd (right_there t i y.0 w y.1 x.2)
+one_reason t e i (Manifest id w) (NoVersion bt) x y = absurd (y.1 x.1)
+one_reason t e i (Manifest id w) (TextLimit n) x y = absurd (long_there i (t (manifest_path i)) n w y.1 y.2 x.2)
+one_reason t e i (Manifest id v) (Manifest other w) x y =
+    ap (λ (j : Id). Manifest j v) (x.0 ∙ sym y.0) ∙ ap (Manifest other) (one_wrong i (t (manifest_path i)) v w x.2 y.2)
+one_reason t e i (Packages n) g x y = absurd x
+one_reason t e i Fault g x y = absurd x
+one_reason t e i Memory g x y = absurd x
+one_reason t e i f (Packages n) x y = absurd y
+one_reason t e i f Fault x y = absurd y
+one_reason t e i f Memory x y = absurd y
 
 -- the package that found no room is there
 full_right : (t : Tree) (met : List Package) (e : Edge) → IsFull (Some t) met e → IsRight t (target e)
@@ -177,8 +120,8 @@ one_cause t met e f g x y = both (why t met e f x) (why t met e g y) where
   both {e = e} (inexact x p) (gone y q) = absurd (true_false (is_exact e.specifier) y x)
   both {e = e} (inexact x p) (full y q) = absurd (true_false (is_exact e.specifier) y.new.exact x)
   both {e = e} (gone x p) (inexact y q) = absurd (true_false (is_exact e.specifier) x y)
-  both {t = t} {e = e} {f = f} {g = g} (gone x p) (gone y q) = one_reason t e f g p q
-  both {t = t} {met = met} {e = e} {f = f} (gone x p) (full y q) = absurd (no_reason t e f (full_right t met e y) p)
+  both {t = t} {e = e} {f = f} {g = g} (gone x p) (gone y q) = one_reason t e (target e) f g p q
+  both {t = t} {met = met} {e = e} {f = f} (gone x p) (full y q) = absurd (no_reason t e (target e) f (full_right t met e y) p)
   both {e = e} (full x p) (inexact y q) = absurd (true_false (is_exact e.specifier) x.new.exact y)
-  both {t = t} {met = met} {e = e} {g = g} (full x p) (gone y q) = absurd (no_reason t e g (full_right t met e x) q)
+  both {t = t} {met = met} {e = e} {g = g} (full x p) (gone y q) = absurd (no_reason t e (target e) g (full_right t met e x) q)
   both (full x p) (full y q) = p ∙ sym q

@@ -1,16 +1,16 @@
 -- Packages in the order in which they are met.
-use Rattle.std.proofs.Common.{◌≡◌, ◌≤◌, ◌<◌, ℕ, suc, zero, List, [], ◌∷◌, ◌++◌, Option, Some, length, map, take, drop, get_or, refl, sym, ap, ◌∙◌, subst, arith, add-one}
+use Rattle.std.proofs.Common.{◌≡◌, ◌≤◌, ◌<◌, ℕ, suc, zero, List, [], ◌∷◌, ◌++◌, Some, length, map, take, drop, get_or, refl, sym, ap, ◌∙◌, subst, arith, add-one}
 use Rattle.std.specs.List.{All}
 use Rattle.std.proofs.lemmas.List.{map-append, append-nil, take_all, take-append-drop, take_more_same, get_or-map, length-map}
 use Rattle.std.proofs.lemmas.List.Elements.{All-get_or}
-use Rattle.serde_json.specs.Data.{Data}
 use Rattle.pn_text.specs.declared.ids.Edge.{Edge}
-use Rattle.pn_fs.specs.Tree.{Tree, Entry}
+use Rattle.pn_fs.specs.Tree.{Tree}
 use Rattle.pn_manifest.specs.Exact.{Id}
 use Rattle.pn_manifest.specs.Pairs.{Pair}
 use Rattle.pn_manifest.specs.Fields.{edges_of}
 use Rattle.pn_registry.specs.Places.{manifest_path}
 use Rattle.pn_registry.specs.Package.{IsText}
+use Rattle.pn_registry.proofs.ManifestLawLemmas.{text_once}
 use Rattle.pn_choice.specs.Edges.{id_of, target, targets, edges_in, all_edges}
 use Rattle.pn_choice.specs.Firsts.{firsts}
 use Rattle.pn_choice.specs.Found.{IsPackage}
@@ -58,15 +58,6 @@ next_id own met d n ids within before =
     ∙ ap (λ (l : List Id). get_or l n (id_of d)) same
     ∙ get_or-front (map id_of met) ids.more n (id_of d) (omega (arith, length-map met id_of, within))
     ∙ get_or-map id_of met n d (id_of d) within
-
--- a file has one value
-pub text_once : (e : Option Entry) (v w : Data) → IsText e v → IsText e w → v ≡ w
-text_once e v w a b =
-    let i = a.is in
-    let j = b.is in
-    let k = a.text.read in
-    let l = b.text.read in
-    cc
 
 -- an id has one package
 one_package : (t : Tree) (p q : Package) → IsPackage (Some t) p → IsPackage (Some t) q → p.id ≡ q.id → p ≡ q

@@ -5,6 +5,7 @@ use Rattle.std.proofs.lemmas.Bool.{cases_lt}
 use Rattle.std.proofs.lemmas.List.{map-append, length-map}
 use Rattle.std.proofs.lemmas.List.Elements.{All-head, All-contains}
 use Rattle.pn_text.specs.declared.ids.Edge.{Edge}
+use Rattle.pn_text.proofs.Members.{All-right}
 use Rattle.pn_fs.specs.Tree.{Tree}
 use Rattle.pn_manifest.specs.Exact.{is_exact}
 use Rattle.pn_manifest.specs.Pairs.{Pair}
@@ -19,7 +20,7 @@ use Rattle.pn_choice.specs.declared.fault.ReachFault.{ReachFault}
 use Rattle.pn_choice.proofs.Once.{firsts_new}
 use Rattle.pn_choice.proofs.Going.{all_edges-append, leads_more}
 use Rattle.pn_choice.proofs.Sequences.{met_reached, met_stopped, longest, begins, even}
-use Rattle.pn_choice.proofs.Least.{All-right, leads_to, all_reach, sound}
+use Rattle.pn_choice.proofs.Least.{leads_to, all_reach, sound}
 use Rattle.pn_choice.proofs.Reasons.{IsRight, all_right, no_edge, one_cause}
 
 pub same : SameLaw

@@ -1,6 +1,8 @@
 -- Causes at one state of the registry, and at an earlier one.
-use Rattle.std.proofs.Common.{◌≤◌, ℕ, List, Option, Some, None, Result, Ok, Err, IfErr, IfOk, OnOk, IfSome, length, refl, sym, ap, ◌∙◌, subst, arith}
+use Rattle.std.proofs.Common.{◌≤◌, ℕ, List, Option, Some, None, IfSome, length, sym, ap, ◌∙◌, subst, arith}
 use Rattle.serde_json.specs.Data.{Data}
+use Rattle.pn_text.specs.Ids.{id_version}
+use Rattle.pn_text.specs.declared.limits.TheConstants.{ID_LIMIT}
 use Rattle.pn_fs.specs.Tree.{Tree}
 use Rattle.pn_fs.specs.Seen.{Seen, Keeps}
 use Rattle.pn_manifest.specs.Exact.{Id, is_exact}
@@ -10,7 +12,7 @@ use Rattle.pn_manifest.specs.Says.{Says}
 use Rattle.pn_manifest.specs.declared.manifest.Manifest.{Manifest}
 use Rattle.pn_registry.specs.Places.{manifest_path}
 use Rattle.pn_registry.specs.Package.{IsRead, IsFound}
-use Rattle.pn_choice.specs.Edges.{id_text, edge_to}
+use Rattle.pn_choice.specs.Edges.{edge_to}
 use Rattle.pn_choice.specs.Found.{HasFolder, HasManifest, IsPackage, NoPackage, NotBuilt, IsBuilt, IsUnbuilt}
 use Rattle.pn_choice.specs.Refusals.{Refuses}
 use Rattle.pn_choice.specs.declared.package.Package.{Package}
@@ -35,18 +37,6 @@ refuses_by C D old new (Packages n) f h = f h
 refuses_by C D old new Fault f h = h
 refuses_by C D old new Memory f h = tt
 
-pub if_err : {T E : Type 0} (P Q : E → Type 0) (r : Result T E) → ((e : E) → P e → Q e) → IfErr r P → IfErr r Q
-if_err P Q (Ok v) f h = tt
-if_err P Q (Err e) f h = f e h
-
-pub if_ok : {T E : Type 0} (P Q : T → Type 0) (r : Result T E) → ((v : T) → P v → Q v) → IfOk r P → IfOk r Q
-if_ok P Q (Ok v) f h = f v h
-if_ok P Q (Err e) f h = tt
-
-pub on_ok : {T E : Type 0} (P Q : Type 0) (r : Result T E) → (P → Q) → OnOk r P → OnOk r Q
-on_ok P Q (Ok v) f h = f h
-on_ok P Q (Err e) f h = tt
-
 -- What a manifest's read says of its value.
 pub record IsSaid (r : Option Tree) (id : Id) (m : Manifest) : Type 0 where
   pub value : Data
@@ -63,11 +53,11 @@ package_of r id m p s b = record {
   manifest = subst (λ (i : Id). HasManifest r i s.value) (sym b.here) s.manifest;
   built = sym s.says.later ∙ b.built;
   edges = b.same ∙ ap (λ n. but_own n m.dependencies) s.says.name ∙ ap (but_own (name_of s.value)) s.says.dependencies;
-  exact = ap (λ (i : Id). is_exact i.version) b.here ∙ b.exact;
-  short = subst (λ (i : Id). length (id_text i) ≤ 120) (sym b.here) b.short;
+  exact = ap (λ (i : Id). is_exact (id_version i)) b.here ∙ b.exact;
+  short = subst (λ (i : Id). length i ≤ ID_LIMIT) (sym b.here) b.short;
 }
 
-pub unbuilt_of : (old new : Seen) (id : Id) (m : Manifest) (from : List ℕ) (fault : ReachFault) → IsSaid old.tree id m → IsUnbuilt m.later id fault → Refuses (λ r. NoPackage r (edge_to from id)) old new fault
+pub unbuilt_of : (old new : Seen) (id : Id) (m : Manifest) (from : List ℕ) (fault : ReachFault) → IsSaid old.tree id m → IsUnbuilt m.later id fault → Refuses (λ r. NoPackage r (edge_to from id) id) old new fault
 unbuilt_of old new id m from (NotYet text) s h = (s.value, s.manifest, subst (λ (o : Option (List ℕ)). NotBuilt o id text) s.says.later h)
 unbuilt_of old new id m from (NoVersion at) s h = absurd h
 unbuilt_of old new id m from (TextLimit n) s h = absurd h
@@ -75,9 +65,3 @@ unbuilt_of old new id m from (wrong_manifest i why) s h = absurd h
 unbuilt_of old new id m from (Packages n) s h = absurd h
 unbuilt_of old new id m from Fault s h = absurd h
 unbuilt_of old new id m from Memory s h = tt
-
-pub keeps_on : (a b c : Seen) → Keeps a b → Keeps b c → Keeps a c
-keeps_on a b c h k = record { tree = k.tree ∙ h.tree; touched = k.touched ∙ h.touched; later = omega (arith, h.later, k.later) }
-
-pub keeps_same : (a : Seen) → Keeps a a
-keeps_same a = record { tree = refl; touched = refl; later = omega arith }

@@ -1,24 +1,24 @@
 -- One edge is taken, or refused.
-use Rattle.std.proofs.Common.{◌≡◌, ◌≤◌, ℕ, List, [], ◌∷◌, ◌++◌, Bool, true, false, ◌||◌, cond, Option, Some, None, Result, Ok, Err, OnOk, is_err, length, map, refl, sym, ap, ◌∙◌, subst, arith, inr, if◌then◌else◌}
+use Rattle.std.proofs.Common.{◌≡◌, ◌≤◌, ℕ, List, [], ◌∷◌, ◌++◌, Bool, true, false, ◌||◌, cond, Option, Result, Ok, Err, OnOk, is_err, length, map, refl, sym, ap, ◌∙◌, subst, arith, inr}
 use Rattle.std.specs.List.{All}
-use Rattle.std.specs.Cmp.{tied_then}
 use Rattle.std.specs.Cmp.Lexicographic.{slice_cmp}
-use Rattle.std.specs.Ordering.{nat_cmp, is_eq}
+use Rattle.std.specs.Ordering.{nat_cmp}
 use Rattle.std.specs.BTreeSet.{BTreeSet, contains, Updates}
 use Rattle.std.proofs.lemmas.Map.Text.{is_eq-slice_cmp}
 use Rattle.std.proofs.lemmas.List.{map-append, append-nil}
 use Rattle.std.proofs.lemmas.List.Elements.{All-push}
 use Rattle.std.proofs.lemmas.List.Folds.{list_any-append}
+use Rattle.pn_text.specs.Ids.{id_text, id_name, id_version}
 use Rattle.pn_text.specs.declared.ids.Edge.{Edge}
 use Rattle.pn_fs.specs.Tree.{Tree}
 use Rattle.pn_fs.specs.Seen.{Seen}
-use Rattle.pn_manifest.specs.Exact.{Id, is_exact, exact_id}
-use Rattle.pn_manifest.specs.Pairs.{Pair}
-use Rattle.pn_choice.specs.Edges.{id_of, target, targets}
+use Rattle.pn_manifest.specs.Exact.{Id, is_exact, IsExactId}
+use Rattle.pn_choice.specs.Edges.{id_of, edge_of, edge_to, target, targets}
 use Rattle.pn_choice.specs.Firsts.{same_id, firsts, is_in, has}
 use Rattle.pn_choice.specs.Found.{IsPackage, NoPackage}
 use Rattle.pn_choice.specs.Refusals.{IsNew, EdgeRefused, Refuses}
-use Rattle.pn_choice.specs.Walks.{pair_cmp, key, IsGood, Takes, Adds, IsTooMany}
+use Rattle.pn_choice.specs.Walked.{package_limit}
+use Rattle.pn_choice.specs.Walks.{IsGood, Takes, Adds, IsTooMany}
 use Rattle.pn_choice.specs.declared.package.Package.{Package}
 use Rattle.pn_choice.specs.declared.walk.Walk.{Walk}
 use Rattle.pn_choice.specs.declared.fault.ReachFault.{ReachFault}
@@ -28,12 +28,6 @@ use Rattle.pn_choice.proofs.Once.{firsts_known, firsts_new}
 pub when_ok : {T E : Type 0} (P : Type 0) (r : Result T E) → OnOk r P → is_err r ≡ false → P
 when_ok P (Ok v) h e = h
 when_ok P (Err x) h e = cc e
-
-at_key : (a b : Id) → is_eq (pair_cmp (key a) (key b)) ≡ same_id a b
-at_key a b =
-    let n = is_eq-slice_cmp a.name b.name in
-    let v = is_eq-slice_cmp a.version b.version in
-    sym (tied_then (slice_cmp nat_cmp a.name b.name) (slice_cmp nat_cmp a.version b.version)) ∙ rw (n, v) refl
 
 either : (a b : Bool) → cond a true b ≡ (b || a)
 either true true = refl
@@ -53,16 +47,16 @@ has_more q ps p =
     ∙ list_any-append (λ y. same_id y q) (map id_of ps) (p.id ∷ [])
     ∙ ap (λ b. has q ps || b) (one_in q p.id)
 
-pub tied_more : (s n : BTreeSet Pair) (ps : List Package) (p : Package) → ((q : Id) → contains pair_cmp s (key q) ≡ has q ps) → Updates pair_cmp s n (key p.id) true → (q : Id) → contains pair_cmp n (key q) ≡ has q (ps ++ p ∷ [])
+pub tied_more : (s n : BTreeSet Id) (ps : List Package) (p : Package) → ((q : Id) → contains (slice_cmp nat_cmp) s q ≡ has q ps) → Updates (slice_cmp nat_cmp) s n p.id true → (q : Id) → contains (slice_cmp nat_cmp) n q ≡ has q (ps ++ p ∷ [])
 tied_more s n ps p tied u q =
-    u.0 (key q)
-    ∙ ap (λ b. cond b true (contains pair_cmp s (key q))) (at_key p.id q)
+    u.0 q
+    ∙ ap (λ b. cond b true (contains (slice_cmp nat_cmp) s q)) (is_eq-slice_cmp p.id q)
     ∙ ap (λ b. cond (same_id p.id q) true b) (tied q)
     ∙ either (same_id p.id q) (has q ps)
     ∙ sym (has_more q ps p)
 
 -- an edge to a package that was met
-pub takes_known : (r : Option Tree) (w : Walk) (e : Edge) → is_exact e.specifier ≡ true → contains pair_cmp w.ids (key (target e)) ≡ true → Takes r (e ∷ []) w w
+pub takes_known : (r : Option Tree) (w : Walk) (e : Edge) → is_exact e.specifier ≡ true → contains (slice_cmp nat_cmp) w.ids (target e) ≡ true → Takes r (e ∷ []) w w
 takes_known r w e exact known = record {
   walks = λ done h.
       let is : is_in (target e) (firsts (targets done)) ≡ true = ap (is_in (target e)) (sym h.walked.ids) ∙ sym (h.good.tied (target e)) ∙ known in
@@ -78,7 +72,7 @@ takes_known r w e exact known = record {
 }
 
 -- an edge to a new package
-pub takes_new : (r : Option Tree) (w v : Walk) (e : Edge) (p : Package) → is_exact e.specifier ≡ true → contains pair_cmp w.ids (key (target e)) ≡ false → p.id ≡ target e → IsPackage r p → Adds p w v → Takes r (e ∷ []) w v
+pub takes_new : (r : Option Tree) (w v : Walk) (e : Edge) (p : Package) → is_exact e.specifier ≡ true → contains (slice_cmp nat_cmp) w.ids (target e) ≡ false → p.id ≡ target e → IsPackage r p → Adds p w v → Takes r (e ∷ []) w v
 takes_new r w v e p exact new here found a = record {
   walks = λ done h.
       let fresh : has (target e) w.packages.items ≡ false = sym (h.good.tied (target e)) ∙ new in
@@ -100,10 +94,10 @@ takes_new r w v e p exact new here found a = record {
   grows = record { more = p ∷ []; is = a.packages };
 }
 
-pub is_new : (w : Walk) (e : Edge) → is_exact e.specifier ≡ true → contains pair_cmp w.ids (key (target e)) ≡ false → IsGood w → IsNew w.packages.items e
+pub is_new : (w : Walk) (e : Edge) → is_exact e.specifier ≡ true → contains (slice_cmp nat_cmp) w.ids (target e) ≡ false → IsGood w → IsNew w.packages.items e
 is_new w e exact new good = record { exact = exact; fresh = sym (good.tied (target e)) ∙ new }
 
-pub edge_refused : (r : Option Tree) (met : List Package) (e : Edge) (fault : ReachFault) → IsNew met e → NoPackage r e fault → EdgeRefused r met e fault
+pub edge_refused : (r : Option Tree) (met : List Package) (e : Edge) (fault : ReachFault) → IsNew met e → NoPackage r e (target e) fault → EdgeRefused r met e fault
 edge_refused r met e (NotYet text) new h = inr (new, h)
 edge_refused r met e (NoVersion at) new h = (new, h)
 edge_refused r met e (TextLimit n) new h = (new, h)
@@ -112,7 +106,7 @@ edge_refused r met e (Packages n) new h = absurd h
 edge_refused r met e Fault new h = absurd h
 edge_refused r met e Memory new h = absurd h
 
-pub too_many : (old new : Seen) (met : List Package) (e : Edge) (p : Package) (fault : ReachFault) → IsNew met e → length met ≤ 16384 → p.id ≡ target e → IsPackage old.tree p → IsTooMany met fault → Refuses (λ r. EdgeRefused r met e) old new fault
+pub too_many : (old new : Seen) (met : List Package) (e : Edge) (p : Package) (fault : ReachFault) → IsNew met e → length met ≤ package_limit → p.id ≡ target e → IsPackage old.tree p → IsTooMany met fault → Refuses (λ r. EdgeRefused r met e) old new fault
 too_many old new met e p (NotYet text) fresh few here found h = absurd h
 too_many old new met e p (NoVersion at) fresh few here found h = absurd h
 too_many old new met e p (TextLimit n) fresh few here found h = absurd h
@@ -121,11 +115,13 @@ too_many old new met e p (Packages n) fresh few here found h = (h.0, record { ne
 too_many old new met e p Fault fresh few here found h = absurd h
 too_many old new met e p Memory fresh few here found h = tt
 
-pub id_exact : (name specifier : List ℕ) (id : Id) → Some id ≡ exact_id name specifier → id ≡ record { name = name; version = specifier }
-id_exact name specifier id h = elim (is_exact specifier) as (λ b. Some id ≡ (if b then Some (record { name = name; version = specifier }) else None) → id ≡ record { name = name; version = specifier }) [
-  | true ↦ λ is. cc
-  | false ↦ λ is. cc
-] h
+-- an exact id is the one to which its edge leads
+pub id_whole : (name specifier : List ℕ) (id : Id) → IsExactId name specifier id → id_text (id_name id) (id_version id) ≡ id
+id_whole name specifier id h = ap (λ (n : List ℕ). id_text n (id_version id)) h.name_is ∙ ap (id_text name) h.version_is ∙ sym h.text
 
-pub contains_at : (s : BTreeSet Pair) (a b : Pair) (v : Bool) → a ≡ b → v ≡ contains pair_cmp s a → contains pair_cmp s b ≡ v
-contains_at s a b v e h = ap (contains pair_cmp s) (sym e) ∙ sym h
+pub edge_same : (from name specifier : List ℕ) (id : Id) → IsExactId name specifier id → edge_to from id ≡ edge_of from (name, specifier)
+edge_same from name specifier id h =
+    ap (λ (n : List ℕ). record { from = from; alias = n; specifier = id_version id }) h.name_is ∙ ap (λ (v : List ℕ). record { from = from; alias = name; specifier = v }) h.version_is
+
+pub no_package_at : (r : Option Tree) (e : Edge) (id : Id) (fault : ReachFault) → target e ≡ id → NoPackage r e id fault → NoPackage r e (target e) fault
+no_package_at r e id fault same h = subst (λ (i : Id). NoPackage r e i fault) (sym same) h

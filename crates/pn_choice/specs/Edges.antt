@@ -1,14 +1,11 @@
 -- Packages and the edges that lead from them.
 use Rattle.std.specs.Prelude.{ℕ, List, [], ◌∷◌, ◌++◌, map, codes}
+use Rattle.pn_text.specs.Ids.{id_text, id_name, id_version}
 use Rattle.pn_text.specs.declared.ids.Edge.{Edge}
 use Rattle.pn_manifest.specs.Pairs.{Pair, but_own}
 use Rattle.pn_manifest.specs.Exact.{Id}
 use Rattle.pn_manifest.specs.declared.manifest.Manifest.{Manifest}
 use Rattle.pn_choice.specs.declared.package.Package.{Package}
-
--- `name@version`
-abbrev pub id_text : Id → List ℕ
-id_text id = id.name ++ 64 ∷ id.version
 
 -- a dependency of a project's folder or of a package's id
 abbrev pub edge_of : List ℕ → Pair → Edge
@@ -19,20 +16,20 @@ edges_from from pairs = map (edge_of from) pairs
 
 -- the package that an edge leads to
 abbrev pub target : Edge → Id
-target e = record { name = e.alias; version = e.specifier }
+target e = id_text e.alias e.specifier
 
 abbrev pub targets : List Edge → List Id
 targets edges = map target edges
 
 -- the edge to a package
 abbrev pub edge_to : List ℕ → Id → Edge
-edge_to from id = record { from = from; alias = id.name; specifier = id.version }
+edge_to from id = record { from = from; alias = id_name id; specifier = id_version id }
 
 abbrev pub id_of : Package → Id
 id_of p = p.id
 
 abbrev pub package_edges : Package → List Edge
-package_edges p = edges_from (id_text p.id) p.dependencies
+package_edges p = edges_from p.id p.dependencies
 
 -- the edges of these packages, in order
 abbrev pub edges_in : List Package → List Edge
@@ -46,6 +43,3 @@ all_edges own packages = edges_from (codes ".") own ++ edges_in packages
 -- A dependency under the manifest's own name leads nowhere.
 abbrev pub edges_by : Manifest → List Pair
 edges_by m = but_own m.name m.dependencies
-
-abbrev pub package_text : Package → List ℕ
-package_text p = id_text p.id

@@ -1,5 +1,5 @@
 -- Ids, each once.
-use Rattle.std.specs.Prelude.{◌&&◌, not, Bool, List, [], ◌∷◌, map, filter}
+use Rattle.std.specs.Prelude.{not, Bool, List, [], ◌∷◌, map, filter}
 use Rattle.std.specs.List.{Contains, list_any}
 use Rattle.std.specs.Str.{bytes_eq}
 use Rattle.pn_manifest.specs.Exact.{Id}
@@ -7,7 +7,7 @@ use Rattle.pn_choice.specs.Edges.{id_of}
 use Rattle.pn_choice.specs.declared.package.Package.{Package}
 
 abbrev pub same_id : Id → Id → Bool
-same_id a b = bytes_eq a.name b.name && bytes_eq a.version b.version
+same_id a b = bytes_eq a b
 
 abbrev pub without : Id → List Id → List Id
 without x ids = filter (λ y. not (same_id x y)) ids

@@ -1,19 +1,19 @@
 -- A package in a registry, and why there is none.
 use Rattle.std.specs.Prelude.{◌≡◌, ◌≢◌, ◌≤◌, ◌<◌, ◌⊎◌, ℕ, List, length, true, Option, Some, None, IfSome}
 use Rattle.serde_json.specs.Data.{Data}
+use Rattle.pn_text.specs.declared.limits.TheConstants.{ID_LIMIT}
+use Rattle.pn_text.specs.Ids.{id_version}
 use Rattle.pn_text.specs.declared.ids.Edge.{Edge}
 use Rattle.pn_fs.specs.Tree.{Tree, folder}
-use Rattle.pn_read.specs.Small.{IsNoFile, IsFileOf}
+use Rattle.pn_read.specs.Small.{IsFileOf}
 use Rattle.pn_manifest.specs.Exact.{Id, is_exact}
 use Rattle.pn_manifest.specs.Pairs.{Pair}
 use Rattle.pn_manifest.specs.Fields.{first_later, edges_of}
+use Rattle.pn_manifest.specs.declared.fault.ManifestWhy.{ManifestWhy}
 use Rattle.pn_registry.specs.Places.{package_folder, manifest_path}
 use Rattle.pn_registry.specs.Package.{text_limit, first_wrong_of, IsText}
-use Rattle.pn_registry.specs.PackageFaults.{IsNoText, IsWrongText}
-use Rattle.pn_choice.specs.Edges.{id_text, target}
+use Rattle.pn_registry.specs.PackageFaults.{WrongFile}
 use Rattle.pn_choice.specs.declared.package.Package.{Package}
-use Rattle.pn_choice.specs.declared.fault.PackageWhy.{PackageWhy}
-use Rattle.pn_choice.specs.declared.fault.PackageWhy.TheVariants.{Missing, NotJson, BadField}
 use Rattle.pn_choice.specs.declared.fault.ReachFault.{ReachFault}
 use Rattle.pn_choice.specs.declared.fault.ReachFault.TheVariants.{NotYet, NoVersion, TextLimit, Manifest, Packages, Fault, Memory}
 
@@ -36,36 +36,34 @@ pub record IsPackage (r : Option Tree) (p : Package) : Type 0 where
   pub manifest : HasManifest r p.id value
   pub built : first_later value ≡ None
   pub edges : p.dependencies ≡ edges_of value
-  pub exact : is_exact p.id.version ≡ true
-  pub short : length (id_text p.id) ≤ 120
+  pub exact : is_exact (id_version p.id) ≡ true
+  pub short : length p.id ≤ ID_LIMIT
 
--- the file at a package's manifest is none, or has no right text
-abbrev pub IsNoManifest : Option Tree → Id → PackageWhy → Type 0
-IsNoManifest r id Missing = IfSome r (λ t. IsNoFile (t (manifest_path id)))
-IsNoManifest r id NotJson = IfSome r (λ t. IsNoText (t (manifest_path id)))
-IsNoManifest r id (BadField f k) = IfSome r (λ t. IsWrongText id (t (manifest_path id)) f k)
+-- something is wrong with the file at a package's manifest
+abbrev pub IsNoManifest : Option Tree → Id → ManifestWhy → Type 0
+IsNoManifest r id why = IfSome r (λ t. WrongFile id (t (manifest_path id)) why)
 
 -- A field stands that isn't built yet, or the id is too long; the text shows it.
 abbrev pub NotBuilt : Option (List ℕ) → Id → List ℕ → Type 0
-NotBuilt later id text = (later ≡ Some text) ⊎ ((later ≡ None) × (120 < length (id_text id)) × (text ≡ id.version))
+NotBuilt later id text = (later ≡ Some text) ⊎ ((later ≡ None) × (ID_LIMIT < length id) × (text ≡ id_version id))
 
--- why there is no package at an edge
-abbrev pub NoPackage : Option Tree → Edge → ReachFault → Type 0
-NoPackage r e (NotYet text) = (value : Data) × HasManifest r (target e) value × NotBuilt (first_later value) (target e) text
-NoPackage r e (NoVersion at) = (at ≡ e) × HasNoFolder r (target e)
-NoPackage r e (TextLimit n) = HasFolder r (target e) × (text_limit < n) × IfSome r (λ t. IsFileOf n (t (manifest_path (target e))))
-NoPackage r e (Manifest id why) = (id ≡ target e) × HasFolder r id × IsNoManifest r id why
-NoPackage r e (Packages n) = ⊥
-NoPackage r e Fault = ⊥
-NoPackage r e Memory = ⊥
+-- why there is no package of this id, to which an edge leads
+abbrev pub NoPackage : Option Tree → Edge → Id → ReachFault → Type 0
+NoPackage r e id (NotYet text) = (value : Data) × HasManifest r id value × NotBuilt (first_later value) id text
+NoPackage r e id (NoVersion at) = (at ≡ e) × HasNoFolder r id
+NoPackage r e id (TextLimit n) = HasFolder r id × (text_limit < n) × IfSome r (λ t. IsFileOf n (t (manifest_path id)))
+NoPackage r e id (Manifest i why) = (i ≡ id) × HasFolder r id × IsNoManifest r id why
+NoPackage r e id (Packages n) = ⊥
+NoPackage r e id Fault = ⊥
+NoPackage r e id Memory = ⊥
 
 -- A package by what its manifest says.
 pub record IsBuilt (later : Option (List ℕ)) (edges : List Pair) (id : Id) (p : Package) : Type 0 where
   pub here : p.id ≡ id
   pub built : later ≡ None
   pub same : p.dependencies ≡ edges
-  pub exact : is_exact id.version ≡ true
-  pub short : length (id_text id) ≤ 120
+  pub exact : is_exact (id_version id) ≡ true
+  pub short : length id ≤ ID_LIMIT
 
 -- not built, or there was no memory
 abbrev pub IsUnbuilt : Option (List ℕ) → Id → ReachFault → Type 0
@@ -96,7 +94,7 @@ IsNoVersion e (Packages n) = ⊥
 IsNoVersion e Fault = ⊥
 IsNoVersion e Memory = Unit {0}
 
-abbrev pub IsWrong : Id → PackageWhy → ReachFault → Type 0
+abbrev pub IsWrong : Id → ManifestWhy → ReachFault → Type 0
 IsWrong id why (NotYet t) = ⊥
 IsWrong id why (NoVersion at) = ⊥
 IsWrong id why (TextLimit n) = ⊥

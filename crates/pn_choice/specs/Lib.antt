@@ -5,5 +5,4 @@ pub mod Walked
 pub mod Refusals
 pub mod Walks
 pub mod Reaches
-pub mod Keyed
 pub mod Laws

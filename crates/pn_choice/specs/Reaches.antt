@@ -2,6 +2,7 @@
 use Rattle.std.specs.Prelude.{List, Some, map}
 use Rattle.std.specs.List.{Contains}
 use Rattle.serde_json.specs.Data.{Data}
+use Rattle.pn_text.specs.Ids.{id_text}
 use Rattle.pn_fs.specs.Tree.{Tree}
 use Rattle.pn_manifest.specs.Pairs.{Pair}
 use Rattle.pn_manifest.specs.Exact.{Id}
@@ -15,7 +16,7 @@ use Rattle.pn_choice.specs.declared.package.Package.{Package}
 
 -- the package of a name and an exact version
 abbrev pub pair_id : Pair → Id
-pair_id e = record { name = e.0; version = e.1 }
+pair_id e = id_text e.0 e.1
 
 -- A dependency of the project, or of the manifest of a package that is reached.
 pub data Reaches (t : Tree) (own : List Pair) : Id → Type 0 where

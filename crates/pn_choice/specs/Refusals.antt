@@ -1,5 +1,5 @@
 -- Why the packages of a project aren't told.
-use Rattle.std.specs.Prelude.{◌≡◌, ◌⊎◌, List, length, true, false, Option}
+use Rattle.std.specs.Prelude.{◌≡◌, ◌⊎◌, ◌+◌, List, length, true, false, Option}
 use Rattle.pn_text.specs.declared.ids.Edge.{Edge}
 use Rattle.pn_text.specs.Causes.{Rose}
 use Rattle.pn_fs.specs.Tree.{Tree}
@@ -29,11 +29,11 @@ pub record IsFull (r : Option Tree) (met : List Package) (e : Edge) : Type 0 whe
 
 -- why an edge isn't taken where these packages were met
 abbrev pub EdgeRefused : Option Tree → List Package → Edge → ReachFault → Type 0
-EdgeRefused r met e (NotYet text) = ((is_exact e.specifier ≡ false) × (text ≡ e.specifier)) ⊎ (IsNew met e × NoPackage r e (NotYet text))
-EdgeRefused r met e (NoVersion at) = IsNew met e × NoPackage r e (NoVersion at)
-EdgeRefused r met e (TextLimit n) = IsNew met e × NoPackage r e (TextLimit n)
-EdgeRefused r met e (Manifest id why) = IsNew met e × NoPackage r e (Manifest id why)
-EdgeRefused r met e (Packages n) = (n ≡ 16385) × IsFull r met e
+EdgeRefused r met e (NotYet text) = ((is_exact e.specifier ≡ false) × (text ≡ e.specifier)) ⊎ (IsNew met e × NoPackage r e (target e) (NotYet text))
+EdgeRefused r met e (NoVersion at) = IsNew met e × NoPackage r e (target e) (NoVersion at)
+EdgeRefused r met e (TextLimit n) = IsNew met e × NoPackage r e (target e) (TextLimit n)
+EdgeRefused r met e (Manifest id why) = IsNew met e × NoPackage r e (target e) (Manifest id why)
+EdgeRefused r met e (Packages n) = (n ≡ package_limit + 1) × IsFull r met e
 EdgeRefused r met e Fault = ⊥
 EdgeRefused r met e Memory = ⊥
 

@@ -1,6 +1,7 @@
 -- The packages that edges lead to.
 use Rattle.std.specs.Prelude.{◌≡◌, ◌≤◌, ◌<◌, ℕ, List, ◌∷◌, ◌++◌, length, map, take, true, Option}
 use Rattle.std.specs.List.{All}
+use Rattle.pn_text.specs.declared.limits.TheConstants.{PACKAGE_LIMIT}
 use Rattle.pn_text.specs.declared.ids.Edge.{Edge}
 use Rattle.pn_fs.specs.Tree.{Tree}
 use Rattle.pn_manifest.specs.Pairs.{Pair}
@@ -17,7 +18,7 @@ pub record Walked (r : Option Tree) (done : List Edge) (met : List Package) : Ty
   pub found : All (IsPackage r) met
 
 abbrev pub package_limit : ℕ
-package_limit = 16384
+package_limit = PACKAGE_LIMIT
 
 -- The packages up to there lead on to more: each package is met before its own edges are taken.
 abbrev pub LeadsOn : List Pair → List Package → ℕ → Type 0

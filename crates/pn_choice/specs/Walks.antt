@@ -1,8 +1,7 @@
 -- A walk along edges.
-use Rattle.std.specs.Prelude.{◌≡◌, ◌≤◌, ℕ, List, [], ◌∷◌, ◌++◌, length, take, drop, Option}
+use Rattle.std.specs.Prelude.{◌≡◌, ◌≤◌, ◌+◌, ℕ, List, [], ◌∷◌, ◌++◌, length, take, drop, Option}
 use Rattle.std.specs.Cmp.Lexicographic.{slice_cmp}
-use Rattle.std.specs.Ordering.{nat_cmp, ordering_then}
-use Rattle.std.specs.declared.cmp.Ordering.{Ordering}
+use Rattle.std.specs.Ordering.{nat_cmp}
 use Rattle.std.specs.BTreeSet.{contains}
 use Rattle.pn_text.specs.declared.ids.Edge.{Edge}
 use Rattle.pn_fs.specs.Tree.{Tree}
@@ -17,16 +16,9 @@ use Rattle.pn_choice.specs.declared.fault.ReachFault.{ReachFault}
 use Rattle.pn_choice.specs.declared.fault.ReachFault.TheVariants.{NotYet, NoVersion, TextLimit, Manifest, Packages, Fault, Memory}
 use Rattle.pn_choice.specs.declared.walk.Walk.{Walk}
 
--- byte order of names, then of versions
-abbrev pub pair_cmp : Pair → Pair → Ordering
-pair_cmp a b = ordering_then (slice_cmp nat_cmp a.0 b.0) (slice_cmp nat_cmp a.1 b.1)
-
-abbrev pub key : Id → Pair
-key id = (id.name, id.version)
-
 -- The set has the ids of the packages, of which there are not too many.
 pub record IsGood (w : Walk) : Type 0 where
-  pub tied : (q : Id) → contains pair_cmp w.ids (key q) ≡ has q w.packages.items
+  pub tied : (q : Id) → contains (slice_cmp nat_cmp) w.ids q ≡ has q w.packages.items
   pub few : length w.packages.items ≤ package_limit
 
 -- These edges were taken.
@@ -55,7 +47,7 @@ IsTooMany met (NotYet t) = ⊥
 IsTooMany met (NoVersion at) = ⊥
 IsTooMany met (TextLimit n) = ⊥
 IsTooMany met (Manifest i why) = ⊥
-IsTooMany met (Packages n) = (n ≡ 16385) × (package_limit ≤ length met)
+IsTooMany met (Packages n) = (n ≡ package_limit + 1) × (package_limit ≤ length met)
 IsTooMany met Fault = ⊥
 IsTooMany met Memory = Unit {0}
 

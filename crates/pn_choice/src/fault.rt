@@ -1,28 +1,27 @@
 // Why the packages of a project aren't told.
-use pn_manifest::ExactId;
-use pn_text::{Edge, Memory, Text};
+use pn_manifest::ManifestWhy;
+use pn_text::{Edge, Memory, PkgId, Text};
 use std::alloc::AllocFailed;
-
-/// What is wrong with a package's manifest: no file, no JSON object, or a field and a key in it (empty where the
-/// field itself is wrong).
-#[derive(Drop)]
-pub enum PackageWhy {
-    Missing,
-    NotJson,
-    BadField(Text, Text),
-}
+use thiserror::Error;
 
 /// Why the packages of a project aren't told: a specifier or a field that isn't built yet; no folder at an edge's
 /// package; a manifest of so many bytes, past 16,777,216; a wrong manifest; so many packages, past 16,384; a
 /// failed call; no memory.
-#[derive(Drop)]
+#[derive(Debug, Drop, Error)]
 pub enum ReachFault {
+    #[error("{0} isn't built yet")]
     NotYet(Text),
+    #[error("there is no package for {0}")]
     NoVersion(Edge),
+    #[error("a manifest has {0} bytes")]
     TextLimit(u64),
-    Manifest(ExactId, PackageWhy),
+    #[error("the manifest of {0} is wrong: {1}")]
+    Manifest(PkgId, ManifestWhy),
+    #[error("there are {0} packages")]
     Packages(u64),
+    #[error("a call failed")]
     Fault,
+    #[error("out of memory")]
     Memory,
 }
 

@@ -1,18 +1,19 @@
 // A package of the registry.
-ghost use Rattle.std.specs.Prelude.{◌≡◌, ◌<◌, ◌↔◌, ℕ, List, IfOk, IfErr, IsTrue, true, length};
+ghost use Rattle.std.specs.Prelude.{◌≡◌, ℕ, List, IfOk, IfErr, true};
 ghost use Rattle.pn_fs.specs.Seen.{Keeps};
+ghost use Rattle.pn_text.specs.Ids.{id_version};
 ghost use Rattle.pn_manifest.specs.Exact.{is_exact};
 ghost use Rattle.pn_manifest.specs.Pairs.{but_own};
-ghost use Rattle.pn_choice.specs.Edges.{id_text, edge_to};
+ghost use Rattle.pn_choice.specs.Edges.{edge_to};
 ghost use Rattle.pn_choice.specs.Found.{HasFolder, IsPackage, NoPackage, IsBuilt, IsUnbuilt, IsNotYet, IsNoVersion, IsWrong};
 ghost use Rattle.pn_choice.specs.Refusals.{Refuses};
 
-use crate::fault::{PackageWhy, ReachFault};
+use crate::fault::ReachFault;
 use crate::package::Package;
 use pn_fs::ReadFs;
-use pn_manifest::{ExactId, Manifest};
+use pn_manifest::{Manifest, ManifestWhy};
 use pn_registry::{PackageFault, manifest, stands};
-use pn_text::{DevFault, Edge, Text};
+use pn_text::{DevFault, Edge, PkgId, Text};
 use std::alloc::Global;
 
 /// Finds the package that an edge leads to.
@@ -20,12 +21,13 @@ pub fn find<R: ReadFs>(
     alloc: Global,
     registry: &mut R,
     from: &Text,
-    id: &ExactId,
+    id: &PkgId,
 ) -> Result<Package, ReachFault>
+    requires { is_exact (id_version id.now) ≡ true }
     ensures here { IfOk result (λ p. p.id ≡ id.now) }
     ensures found { IfOk result (IsPackage (R.seen registry.old).tree) }
     ensures kept { Keeps (R.seen registry.old) (R.seen registry.new) }
-    ensures refused { IfErr result (Refuses (λ r. NoPackage r (edge_to from.now id.now)) (R.seen registry.old) (R.seen registry.new)) }
+    ensures refused { IfErr result (Refuses (λ r. NoPackage r (edge_to from.now id.now) id.now) (R.seen registry.old) (R.seen registry.new)) }
 {
     match stands(alloc, registry, id) {
         Ok(true) => read(alloc, registry, id),
@@ -36,20 +38,17 @@ pub fn find<R: ReadFs>(
 }
 
 // Reads the manifest of a package whose folder stands.
-fn read<R: ReadFs>(alloc: Global, registry: &mut R, id: &ExactId) -> Result<Package, ReachFault>
-    requires { HasFolder (R.seen registry.old).tree id.now }
+fn read<R: ReadFs>(alloc: Global, registry: &mut R, id: &PkgId) -> Result<Package, ReachFault>
+    requires folder { HasFolder (R.seen registry.old).tree id.now }
+    requires exact { is_exact (id_version id.now) ≡ true }
     ensures here { IfOk result (λ p. p.id ≡ id.now) }
     ensures found { IfOk result (IsPackage (R.seen registry.old).tree) }
     ensures kept { Keeps (R.seen registry.old) (R.seen registry.new) }
-    ensures refused { IfErr result (λ fault. (from : List ℕ) → Refuses (λ r. NoPackage r (edge_to from id.now)) (R.seen registry.old) (R.seen registry.new) fault) }
+    ensures refused { IfErr result (λ fault. (from : List ℕ) → Refuses (λ r. NoPackage r (edge_to from id.now) id.now) (R.seen registry.old) (R.seen registry.new) fault) }
 {
     match manifest(alloc, registry, id) {
         Ok(manifest) => package(alloc, id, &manifest),
-        Err(PackageFault::Missing) => Err(wrong(alloc, id, PackageWhy::Missing)),
-        Err(PackageFault::NotJson) => Err(wrong(alloc, id, PackageWhy::NotJson)),
-        Err(PackageFault::BadField(field, key)) => {
-            Err(wrong(alloc, id, PackageWhy::BadField(field, key)))
-        }
+        Err(PackageFault::Wrong(why)) => Err(wrong(alloc, id, why)),
         Err(PackageFault::TooLarge(length)) => Err(ReachFault::TextLimit(length)),
         Err(PackageFault::Fault) => Err(ReachFault::Fault),
         Err(PackageFault::Memory) => Err(ReachFault::Memory),
@@ -57,15 +56,16 @@ fn read<R: ReadFs>(alloc: Global, registry: &mut R, id: &ExactId) -> Result<Pack
 }
 
 // The package of a manifest.
-fn package(alloc: Global, id: &ExactId, manifest: &Manifest) -> Result<Package, ReachFault>
+fn package(alloc: Global, id: &PkgId, manifest: &Manifest) -> Result<Package, ReachFault>
+    requires { is_exact (id_version id.now) ≡ true }
     ensures built { IfOk result (IsBuilt manifest.now.later (but_own manifest.now.name manifest.now.dependencies) id.now) }
     ensures refused { IfErr result (IsUnbuilt manifest.now.later id.now) }
 {
     if let Some(field) = &manifest.later {
-        return Err(not_yet(alloc, field));
+        return Err(not_yet(alloc, field.as_str()));
     }
-    if is_long(id) {
-        return Err(not_yet(alloc, id.version()));
+    if !id.is_short() {
+        return Err(not_yet(alloc, id.version_text()));
     }
     match (id.copy(alloc), manifest.edges(alloc)) {
         (Ok(id), Ok(dependencies)) => Ok(Package { id, dependencies }),
@@ -73,33 +73,23 @@ fn package(alloc: Global, id: &ExactId, manifest: &Manifest) -> Result<Package, 
     }
 }
 
-// Whether the text `name@version` has more than 120 bytes.
-fn is_long(id: &ExactId) -> bool
-    ensures long { IsTrue result ↔ (120 < length (id_text id.now)) }
-    ensures exact { is_exact id.now.version ≡ true }
-{
-    let name = id.name().as_str().len();
-    let version = id.version().as_str().len();
-    name > 119 || version > 119 - name
-}
-
 /// The refusal of what isn't built yet.
-pub fn not_yet(alloc: Global, text: &Text) -> ReachFault
+pub fn not_yet(alloc: Global, text: &str) -> ReachFault
     ensures { IsNotYet text.now result }
 {
-    match text.copy(alloc) {
+    match Text::of(alloc, text) {
         Ok(text) => ReachFault::NotYet(text),
         Err(_) => ReachFault::Memory,
     }
 }
 
-fn no_version(alloc: Global, from: &Text, id: &ExactId) -> ReachFault
+fn no_version(alloc: Global, from: &Text, id: &PkgId) -> ReachFault
     ensures { IsNoVersion (edge_to from.now id.now) result }
 {
     match (
         from.copy(alloc),
         id.name().copy(alloc),
-        id.version().copy(alloc),
+        Text::of(alloc, id.version_text()),
     ) {
         (Ok(from), Ok(alias), Ok(specifier)) => ReachFault::NoVersion(Edge {
             from,
@@ -110,7 +100,7 @@ fn no_version(alloc: Global, from: &Text, id: &ExactId) -> ReachFault
     }
 }
 
-fn wrong(alloc: Global, id: &ExactId, why: PackageWhy) -> ReachFault
+fn wrong(alloc: Global, id: &PkgId, why: ManifestWhy) -> ReachFault
     ensures { IsWrong id.now why result }
 {
     match id.copy(alloc) {

@@ -15,8 +15,8 @@ mod project;
 mod reached;
 mod walk;
 
-pub use fault::{PackageWhy, ReachFault};
-pub use package::{Package, id_text};
+pub use fault::ReachFault;
+pub use package::Package;
 pub use project::{cause_law, edge_law, passed_law, reach, reach_law, same_law};
 pub use reached::Reached;
 

@@ -2,7 +2,7 @@
 ghost use Rattle.std.specs.Prelude.{◌≡◌, IfOk, IsPermutation, IsSorted, length, map};
 ghost use Rattle.std.specs.Cmp.Lexicographic.{slice_cmp};
 ghost use Rattle.std.specs.Ordering.{nat_cmp};
-ghost use Rattle.pn_choice.specs.Edges.{package_text};
+ghost use Rattle.pn_choice.specs.Edges.{id_of};
 
 use crate::order::in_order;
 use crate::package::Package;
@@ -38,15 +38,13 @@ impl Reached {
         self.packages.len()
     }
 
-    /// The packages in byte order of the texts `name@version`.
-    pub fn by_id(self, alloc: Global) -> Result<Reached, Memory>
+    /// The packages in byte order of their ids.
+    pub fn by_id(self) -> Result<Reached, Memory>
         ensures permutation { IfOk result (IsPermutation self) }
-        ensures sorted { IfOk result (λ r. IsSorted (slice_cmp nat_cmp) (map package_text r)) }
+        ensures sorted { IfOk result (λ r. IsSorted (slice_cmp nat_cmp) (map id_of r)) }
     {
-        match in_order(alloc, self.packages) {
-            Ok(packages) => Ok(Reached { packages }),
-            Err(_) => Err(Memory),
-        }
+        let packages = in_order(self.packages)?;
+        Ok(Reached { packages })
     }
 }
 

@@ -1,8 +1,8 @@
 // Answers over a registry in memory.
 
-use crate::{PackageWhy, ReachFault, Reached, id_text, reach};
+use crate::{ReachFault, Reached, reach};
 use pn_fs::{Body, SureFs, try_make};
-use pn_manifest::Manifest;
+use pn_manifest::{Manifest, ManifestWhy};
 use pn_text::AbsPath;
 use std::alloc::Global;
 use std::test::Fail;
@@ -65,7 +65,7 @@ fn registry(alloc: Global) -> Result<SureFs, Fail> {
 fn ids(alloc: Global, found: &Reached) -> Result<String, Fail> {
     let mut text = String::new(alloc);
     for package in found.as_slice() {
-        text.push_str(id_text(alloc, &package.id)?.as_str())?;
+        text.push_str(package.id.as_str())?;
         text.push_str(",")?;
     }
     Ok(text)
@@ -85,8 +85,8 @@ fn told(alloc: Global, fault: &ReachFault) -> Result<String, Fail> {
             text.push_str("@")?;
             text.push_str(edge.specifier.as_str())?;
         }
-        ReachFault::Manifest(id, PackageWhy::BadField(field, _)) => {
-            text.push_str(id_text(alloc, id)?.as_str())?;
+        ReachFault::Manifest(id, ManifestWhy::BadField(field, _)) => {
+            text.push_str(id.as_str())?;
             text.push_str(" field ")?;
             text.push_str(field.as_str())?;
         }
@@ -105,7 +105,7 @@ fn answer(alloc: Global, project: &str) -> Result<String, Fail> {
         Ok(found) => {
             let mut text = ids(alloc, &found)?;
             text.push_str(" ")?;
-            text.push_str(ids(alloc, &found.by_id(alloc)?)?.as_str())?;
+            text.push_str(ids(alloc, &found.by_id()?)?.as_str())?;
             Ok(text)
         }
         Err(fault) => told(alloc, &fault),

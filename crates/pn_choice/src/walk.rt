@@ -1,32 +1,31 @@
 // The walk along edges.
 ghost use Rattle.std.specs.Prelude.{◌≡◌, ◌<◌, ◌∷◌, [], Option, OnOk, IfOk, IfErr, List, true, vec_len, length, codes};
 ghost use Rattle.pn_text.specs.declared.ids.Edge.{Edge as TheEdge};
+ghost use Rattle.pn_text.specs.Ids.{id_version};
 ghost use Rattle.pn_fs.specs.Seen.{Keeps};
 ghost use Rattle.pn_fs.specs.Tree.{Tree};
 ghost use Rattle.pn_manifest.specs.Exact.{is_exact};
 ghost use Rattle.pn_manifest.specs.Listed.{pair_of};
 ghost use Rattle.pn_manifest.specs.Pairs.{Pair};
-ghost use Rattle.pn_choice.specs.Edges.{edge_of, edge_to, edges_from};
+ghost use Rattle.pn_choice.specs.Edges.{edge_of, edge_to, edges_from, target};
 ghost use Rattle.pn_choice.specs.Refusals.{Refuses, EdgeRefused, IsStopped};
 ghost use Rattle.pn_choice.specs.Walked.{IsReached};
-ghost use Rattle.pn_choice.specs.Walks.{key, IsGood, IsWalk, Takes, Adds, IsTooMany, StopsIn, edges_at};
+ghost use Rattle.pn_choice.specs.Walks.{IsGood, IsWalk, Takes, Adds, IsTooMany, StopsIn, edges_at};
 
 use crate::fault::ReachFault;
 use crate::find::{find, not_yet};
-use crate::package::{Package, id_text};
+use crate::package::Package;
 use pn_fs::ReadFs;
-use pn_manifest::{Dependencies, Dependency, ExactId};
-use pn_text::{Memory, PkgName, Text};
+use pn_manifest::{Dependencies, Dependency, exact_id};
+use pn_text::{Memory, PACKAGE_LIMIT, PkgId, Text};
 use std::alloc::Global;
 use std::collections::BTreeSet;
 
-const LIMIT: usize = 16384;
-
-/// The packages that were met, and their names and versions.
+/// The packages that were met, and their ids.
 #[derive(Drop)]
 pub struct Walk {
     pub packages: Vec<Package>,
-    pub ids: BTreeSet<(PkgName, Text)>,
+    pub ids: BTreeSet<PkgId>,
 }
 
 impl Walk {
@@ -52,9 +51,9 @@ impl Walk {
         ensures kept { Keeps (R.seen registry.old) (R.seen registry.new) }
         ensures refused { IfErr result (λ fault. IsGood self.old → Refuses (λ r. EdgeRefused r self.old.packages.items (edge_of from.now (pair_of dependency.now))) (R.seen registry.old) (R.seen registry.new) fault) }
     {
-        match ExactId::of(alloc, &dependency.name, &dependency.specifier) {
+        match exact_id(alloc, &dependency.name, &dependency.specifier) {
             Ok(Some(id)) => self.meet(alloc, registry, from, &id),
-            Ok(None) => Err(not_yet(alloc, &dependency.specifier)),
+            Ok(None) => Err(not_yet(alloc, dependency.specifier.as_str())),
             Err(_) => Err(ReachFault::Memory),
         }
     }
@@ -65,21 +64,19 @@ impl Walk {
         alloc: Global,
         registry: &mut R,
         from: &Text,
-        id: &ExactId,
+        id: &PkgId,
     ) -> Result<(), ReachFault>
-        requires { is_exact id.now.version ≡ true }
+        requires exact { is_exact (id_version id.now) ≡ true }
+        requires whole { target (edge_to from.now id.now) ≡ id.now }
         ensures taken { OnOk result (Takes (R.seen registry.old).tree (edge_to from.now id.now ∷ []) self.old self.new) }
         ensures kept { Keeps (R.seen registry.old) (R.seen registry.new) }
         ensures refused { IfErr result (λ fault. IsGood self.old → Refuses (λ r. EdgeRefused r self.old.packages.items (edge_to from.now id.now)) (R.seen registry.old) (R.seen registry.new) fault) }
     {
-        let Ok(pair) = key_of(alloc, id) else {
-            return Err(ReachFault::Memory);
-        };
-        if self.ids.contains(&pair) {
+        if self.ids.contains(id) {
             return Ok(());
         }
         match find(alloc, registry, from, id) {
-            Ok(found) => self.add(pair, found),
+            Ok(found) => self.add(alloc, found),
             Err(fault) => Err(fault),
         }
     }
@@ -132,7 +129,7 @@ impl Walk {
         ensures kept { Keeps (R.seen registry.old) (R.seen registry.new) }
         ensures refused { IfErr result (λ fault. (own : List Pair) → IsWalk (R.seen registry.old).tree (edges_from (codes ".") own) self.old → Refuses (IsStopped own) (R.seen registry.old) (R.seen registry.new) fault) }
     {
-        for at in 0..LIMIT {
+        for at in 0..PACKAGE_LIMIT {
             if at >= self.packages.len() {
                 return Ok(());
             }
@@ -143,15 +140,17 @@ impl Walk {
         Ok(())
     }
 
-    // Adds a package under its key.
-    fn add(&mut self, id: (PkgName, Text), found: Package) -> Result<(), ReachFault>
-        requires { id ≡ key found.id }
+    // Adds a package.
+    fn add(&mut self, alloc: Global, found: Package) -> Result<(), ReachFault>
         ensures added { OnOk result (Adds found self.old self.new) }
         ensures refused { IfErr result (IsTooMany self.old.packages.items) }
     {
-        if self.packages.len() >= LIMIT {
-            return Err(ReachFault::Packages(16385));
+        if self.packages.len() >= PACKAGE_LIMIT {
+            return Err(ReachFault::Packages(PACKAGE_LIMIT as u64 + 1));
         }
+        let Ok(id) = found.id.copy(alloc) else {
+            return Err(ReachFault::Memory);
+        };
         if self.ids.insert(id).is_err() {
             return Err(ReachFault::Memory);
         }
@@ -162,15 +161,6 @@ impl Walk {
     }
 }
 
-fn key_of(alloc: Global, id: &ExactId) -> Result<(PkgName, Text), Memory>
-    ensures { IfOk result (λ k. k ≡ key id.now) }
-{
-    match (id.name().copy(alloc), id.version().copy(alloc)) {
-        (Ok(name), Ok(version)) => Ok((name, version)),
-        _ => Err(Memory),
-    }
-}
-
 // The id's text and the dependencies of the package at a place.
 fn edges(alloc: Global, packages: &[Package], at: usize) -> Result<(Text, Dependencies), Memory>
     requires { at < length packages.now }
@@ -178,7 +168,7 @@ fn edges(alloc: Global, packages: &[Package], at: usize) -> Result<(Text, Depend
 {
     let package = &packages[at];
     match (
-        id_text(alloc, &package.id),
+        Text::of(alloc, package.id.as_str()),
         package.dependencies.copy(alloc),
     ) {
         (Ok(from), Ok(dependencies)) => Ok((from, dependencies)),

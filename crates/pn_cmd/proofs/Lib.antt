@@ -1,8 +1,15 @@
-pub mod Steps
-mod FoundManifests
-mod Texts
-mod Stages
-mod Written
-mod Endings
-mod Tables
-mod Lookups
+pub mod PointLemmas
+pub mod AlikeLemmas
+pub mod CauseLemmas
+pub mod EndingLemmas
+pub mod FoundLemmas
+pub mod LookupLemmas
+pub mod ManifestLemmas
+pub mod OnceLemmas
+pub mod OrderLemmas
+pub mod PassedLemmas
+pub mod RegistryTexts
+pub mod SettledLemmas
+pub mod StandingLemmas
+pub mod TakenLemmas
+pub mod WrittenLemmas

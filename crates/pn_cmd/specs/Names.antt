@@ -1,6 +1,6 @@
 -- The names that a run looks for.
-use Rattle.std.specs.Prelude.{ℕ, List, [], ◌∷◌, codes, Bool, false}
-use Rattle.std.specs.Str.{bytes_eq}
+use Rattle.std.specs.Prelude.{ℕ, List, ◌∷◌, codes}
+use Rattle.pn_text.specs.Path.{Path}
 
 abbrev pub workspace_name : List ℕ
 workspace_name = codes "pnpm-workspace.yaml"
@@ -14,8 +14,6 @@ lock_name = codes "pnpm-lock.yaml"
 abbrev pub modules_name : List ℕ
 modules_name = codes "node_modules"
 
--- whether the words are those of a command
-abbrev pub is_install : List (List ℕ) → Bool
-is_install [] = false
-is_install (w ∷ []) = bytes_eq w (codes "install")
-is_install (w ∷ v ∷ ws) = false
+-- the managed folder
+abbrev pub modules_path : Path → Path
+modules_path place = modules_name ∷ place

@@ -1,25 +1,32 @@
 -- The point at which the packages' files are listed.
-use Rattle.std.specs.Prelude.{◌≡◌, ℕ, List, Option}
-use Rattle.pn_text.specs.Path.{Path}
-use Rattle.pn_fs.specs.Tree.{Tree}
+use Rattle.std.specs.Prelude.{◌≡◌, ◌+◌, List}
+use Rattle.pn_text.specs.declared.limits.TheConstants.{ENTRY_LIMIT}
 use Rattle.pn_choice.specs.declared.package.Package.{Package as Found}
+use Rattle.pn_layout.specs.declared.packages.Package.{Package}
 use Rattle.pn_collect.specs.CollectFaults.{IsFirstRefused}
-use Rattle.pn_collect.specs.declared.fault.CollectFault.TheVariants.{Modules, TooLarge, LongPath, Entries as FaultEntries}
-use Rattle.pn_cmd.specs.declared.status.Which.TheVariants.{File, Path as PathLength, Entries}
+use Rattle.pn_collect.specs.Packages.{ArePackages}
+use Rattle.pn_collect.specs.declared.fault.CollectFault.{CollectFault}
+use Rattle.pn_collect.specs.declared.fault.CollectFault.TheVariants.{Modules, TooLarge, Entries as FaultEntries, Fault, Memory as NoMemory}
+use Rattle.pn_cmd.specs.declared.status.Which.TheVariants.{File, Entries}
 use Rattle.pn_cmd.specs.declared.status.Status.{Status}
-use Rattle.pn_cmd.specs.declared.status.Status.TheVariants.{Limit, NotYet}
+use Rattle.pn_cmd.specs.declared.status.Status.TheVariants.{Memory, Limit, RegistryFault, NotYet}
+use Rattle.pn_cmd.specs.World.{Shown}
+use Rattle.pn_cmd.specs.Points.{Point}
 use Rattle.pn_cmd.specs.Graph.{registry_text}
+use Rattle.pn_cmd.specs.Known.{Graph}
 
--- A file of a package has a part `node_modules`.
-pub record HasModules (met : List Found) (r : Option Tree) (text : List ℕ) : Type 0 where
-  pub path : Path
-  pub named : text ≡ registry_text path
-  pub first : IsFirstRefused met r (Modules path)
+-- the status that tells of a refusal
+abbrev pub collect_status : CollectFault → Status
+collect_status (Modules path) = NotYet (registry_text path)
+collect_status (TooLarge n) = Limit File n
+collect_status FaultEntries = Limit Entries (ENTRY_LIMIT + 1)
+collect_status Fault = RegistryFault
+collect_status NoMemory = Memory
 
 -- why the packages have no files: the first package in byte order of ids that has a cause
-abbrev pub Unlisted : List Found → Option Tree → Status → Type 0
-Unlisted met r (Limit File n) = IsFirstRefused met r (TooLarge n)
-Unlisted met r (Limit PathLength n) = IsFirstRefused met r (LongPath n)
-Unlisted met r (Limit Entries n) = (n ≡ 4194305) × IsFirstRefused met r FaultEntries
-Unlisted met r (NotYet text) = HasModules met r text
-Unlisted met r s = ⊥
+abbrev pub Unlisted : List Found → Shown → Status → Type 0
+Unlisted met w RegistryFault = Unit {0}
+Unlisted met w s = (fault : CollectFault) × (s ≡ collect_status fault) × IsFirstRefused met w.trees.registry fault
+
+abbrev pub listed : Point Graph (List Package)
+listed = record { Finds = λ k t packages. ArePackages t.registry k.project.own k.met packages; Cause = λ k. Unlisted k.met }

@@ -1,16 +1,17 @@
 -- What is told of a status.
-use Rattle.std.specs.Prelude.{◌≡◌, ℕ, List, [], ◌++◌, codes}
+use Rattle.std.specs.Prelude.{◌≡◌, ◌≢◌, ◌⊎◌, ℕ, List, [], ◌++◌, codes}
 use Rattle.std.specs.Fmt.{decimal}
 use Rattle.pn_text.specs.Causes.{Rose}
 use Rattle.pn_text.specs.declared.ids.Edge.{Edge}
 use Rattle.pn_fs.specs.Seen.{Taken}
 use Rattle.pn_fs.specs.Takes.{told_more}
-use Rattle.pn_cmd.specs.declared.status.ManifestWhy.{ManifestWhy}
-use Rattle.pn_cmd.specs.declared.status.ManifestWhy.TheVariants.{Missing, NotJson, BadField}
+use Rattle.pn_manifest.specs.declared.fault.ManifestWhy.{ManifestWhy}
+use Rattle.pn_manifest.specs.declared.fault.ManifestWhy.TheVariants.{Missing, NotJson, BadField}
 use Rattle.pn_cmd.specs.declared.status.Which.{Which}
 use Rattle.pn_cmd.specs.declared.status.Which.TheVariants.{Packages, File, Text, Path, Entries}
 use Rattle.pn_cmd.specs.declared.status.Status.{Status}
 use Rattle.pn_cmd.specs.declared.status.Status.TheVariants.{Done, Memory, Usage, Manifest, NoVersion, Limit, ProjectFault, RegistryFault, SinkFault, NotYet}
+use Rattle.pn_cmd.specs.Reports.{TookSome}
 
 abbrev pub why_text : ManifestWhy → List ℕ
 why_text Missing = codes "missing\n"
@@ -40,9 +41,18 @@ status_line RegistryFault = codes "pnpm-rs: registry fault\n"
 status_line SinkFault = codes "pnpm-rs: output fault\n"
 status_line (NotYet text) = codes "pnpm-rs: not yet: " ++ text ++ codes "\n"
 
--- The line of the status was taken, and nothing where the run is done, unless a fault rose or there
--- was no memory.
-abbrev pub Tells : Taken → Taken → Status → Type 0
-Tells old new Done = new ≡ old
-Tells old new Memory = Unit {0}
-Tells old new s = (Rose old.faults new.faults → ⊥) → new.bytes ≡ told_more old.bytes (status_line s)
+-- The line of an answer was taken, or a front of it where a fault rose.
+pub record TellsLine (s : Status) (old new : Taken) : Type 0 where
+  pub some : TookSome (status_line s) old new
+  pub all : (Rose old.faults new.faults → ⊥) → new.bytes ≡ told_more old.bytes (status_line s)
+
+-- What is told of an answer: nothing where the run is done; where there was no memory, at most the line of an answer that
+-- there could have been; else its line.
+abbrev pub Tells : (Status → Type 0) → Taken → Taken → Status → Type 0
+Tells Could old new Done = new ≡ old
+Tells Could old new Memory = (s : Status) × Could s × TookSome (status_line s) old new
+Tells Could old new s = TellsLine s old new
+
+-- This answer, or want of memory in place of a refusal.
+abbrev pub OrMemory : Status → Status → Type 0
+OrMemory s v = (v ≡ s) ⊎ ((v ≡ Memory) × (s ≢ Done))

@@ -1,22 +1,10 @@
 -- What the outside shows, before a run and after it.
-use Rattle.std.specs.Prelude.{ℕ, List}
+use Rattle.std.specs.Prelude.{◌≡◌, ℕ, List, Option}
 use Rattle.pn_text.specs.Path.{Path}
+use Rattle.pn_fs.specs.Tree.{Tree}
 use Rattle.pn_fs.specs.Seen.{Seen, Taken, Keeps}
 
--- what the points before the writing read
-pub record Sources : Type 0 where
-  pub project : Seen
-  pub registry : Seen
-
-abbrev pub sources : Seen → Seen → Sources
-sources project registry = record { project = project; registry = registry }
-
--- Neither tree differs.
-pub record AreKept (old new : Sources) : Type 0 where
-  pub project : Keeps old.project new.project
-  pub registry : Keeps old.registry new.registry
-
--- all that a run's answer speaks of
+-- all that a run's answer speaks of: a field for each device
 pub record World : Type 0 where
   pub project : Seen
   pub registry : Seen
@@ -25,8 +13,29 @@ pub record World : Type 0 where
 abbrev pub world : Seen → Seen → Taken → World
 world project registry out = record { project = project; registry = registry; out = out }
 
-abbrev pub sources_of : World → Sources
-sources_of w = sources w.project w.registry
+-- what the points of a run read
+pub record Trees : Type 0 where
+  pub project : Option Tree
+  pub registry : Option Tree
+
+abbrev pub trees : Seen → Seen → Trees
+trees project registry = record { project = project.tree; registry = registry.tree }
+
+abbrev pub trees_of : World → Trees
+trees_of w = trees w.project w.registry
+
+-- what a refusal may rest on
+pub record Shown : Type 0 where
+  pub trees : Trees
+
+abbrev pub shown : World → Shown
+shown old = record { trees = trees_of old }
+
+-- Calls that only read the trees, and leave the output alone.
+pub record AreKept (old new : World) : Type 0 where
+  pub project : Keeps old.project new.project
+  pub registry : Keeps old.registry new.registry
+  pub out : new.out ≡ old.out
 
 -- what a run is handed besides
 pub record Inputs : Type 0 where

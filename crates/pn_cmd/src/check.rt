@@ -1,12 +1,13 @@
 // The points before anything is written.
-ghost use Rattle.std.specs.Prelude.{◌≡◌, ◌∷◌, map, string_bytes, IfOk, IfErr};
-ghost use Rattle.serde_json.specs.Data.{Data};
-ghost use Rattle.pn_manifest.specs.Says.{Says};
+ghost use Rattle.std.specs.Prelude.{map, string_bytes, IfOk, IfErr};
+ghost use Rattle.pn_fs.specs.Seen.{Taken, Keeps};
 ghost use Rattle.pn_choice.specs.Edges.{edges_by};
 ghost use Rattle.pn_choice.specs.Walked.{IsReached};
-ghost use Rattle.pn_cmd.specs.World.{inputs, sources, AreKept};
-ghost use Rattle.pn_cmd.specs.Order.{Refused, RefusedBehind, RefusedTree};
-ghost use Rattle.pn_cmd.specs.Readies.{IsReady, IsReadyBehind, IsReadyTree};
+ghost use Rattle.pn_cmd.specs.World.{inputs, trees, world};
+ghost use Rattle.pn_cmd.specs.Points.{Refuses};
+ghost use Rattle.pn_cmd.specs.Known.{project_of, graph_of};
+ghost use Rattle.pn_cmd.specs.Chain.{install, goal, tree};
+ghost use Rattle.pn_cmd.specs.Readies.{IsReady, IsGoalReady, IsTreeReady};
 
 use crate::graph::reached;
 use crate::manifest::read_manifest;
@@ -30,9 +31,10 @@ pub fn check<P: ReadFs, R: ReadFs>(
     project: &mut P,
     registry: &mut R,
 ) -> Result<Ready, Status>
-    ensures ready { IfOk result (IsReady (inputs (map string_bytes words.now) place.now) (sources (P.seen project.old) (R.seen registry.old))) }
-    ensures refused { IfErr result (Refused (inputs (map string_bytes words.now) place.now) (sources (P.seen project.old) (R.seen registry.old)) (sources (P.seen project.new) (R.seen registry.new))) }
-    ensures kept { AreKept (sources (P.seen project.old) (R.seen registry.old)) (sources (P.seen project.new) (R.seen registry.new)) }
+    ensures ready { IfOk result (IsReady (inputs (map string_bytes words.now) place.now) (trees (P.seen project.old) (R.seen registry.old))) }
+    ensures refused { (out : Taken) → IfErr result (Refuses (install.Cause (inputs (map string_bytes words.now) place.now)) (world (P.seen project.old) (R.seen registry.old) out) (world (P.seen project.new) (R.seen registry.new) out)) }
+    ensures project { Keeps (P.seen project.old) (P.seen project.new) }
+    ensures registry { Keeps (R.seen registry.old) (R.seen registry.new) }
 {
     if !is_install(words) {
         return Err(Status::Usage);
@@ -44,20 +46,21 @@ pub fn check<P: ReadFs, R: ReadFs>(
         Ok(manifest) => manifest,
         Err(status) => return Err(status),
     };
-    check_behind(alloc, place, &manifest, project, registry)
+    check_goal(alloc, place, &manifest, project, registry)
 }
 
-// Goes through the points behind the manifest's.
-fn check_behind<P: ReadFs, R: ReadFs>(
+// Goes through the points after the manifest's.
+fn check_goal<P: ReadFs, R: ReadFs>(
     alloc: Global,
     place: &AbsPath,
     manifest: &Manifest,
     project: &mut P,
     registry: &mut R,
 ) -> Result<Ready, Status>
-    ensures ready { IfOk result (λ ready. (d : Data) → Says d manifest.now → IsReadyBehind place.now d (sources (P.seen project.old) (R.seen registry.old)) ready) }
-    ensures refused { IfErr result (λ s. (d : Data) → Says d manifest.now → RefusedBehind place.now d (sources (P.seen project.old) (R.seen registry.old)) (sources (P.seen project.new) (R.seen registry.new)) s) }
-    ensures kept { AreKept (sources (P.seen project.old) (R.seen registry.old)) (sources (P.seen project.new) (R.seen registry.new)) }
+    ensures ready { IfOk result (IsGoalReady place.now (edges_by manifest.now) (trees (P.seen project.old) (R.seen registry.old))) }
+    ensures refused { (out : Taken) → IfErr result (Refuses (goal.Cause (project_of place.now (edges_by manifest.now))) (world (P.seen project.old) (R.seen registry.old) out) (world (P.seen project.new) (R.seen registry.new) out)) }
+    ensures project { Keeps (P.seen project.old) (P.seen project.new) }
+    ensures registry { Keeps (R.seen registry.old) (R.seen registry.new) }
 {
     if let Err(status) = nothing_stands(alloc, place, "pnpm-lock.yaml", project) {
         return Err(status);
@@ -68,7 +71,7 @@ fn check_behind<P: ReadFs, R: ReadFs>(
     }
 }
 
-// Goes through the points behind the packages that are reached.
+// Goes through the points after the packages that are reached.
 fn check_tree<P: ReadFs, R: ReadFs>(
     alloc: Global,
     place: &AbsPath,
@@ -78,9 +81,10 @@ fn check_tree<P: ReadFs, R: ReadFs>(
     registry: &mut R,
 ) -> Result<Ready, Status>
     requires { IsReached (R.seen registry.old).tree (edges_by manifest.now) reached }
-    ensures ready { IfOk result (IsReadyTree place.now (edges_by manifest.now) reached (sources (P.seen project.old) (R.seen registry.old))) }
-    ensures refused { IfErr result (RefusedTree place.now (edges_by manifest.now) reached (sources (P.seen project.old) (R.seen registry.old)) (sources (P.seen project.new) (R.seen registry.new))) }
-    ensures kept { AreKept (sources (P.seen project.old) (R.seen registry.old)) (sources (P.seen project.new) (R.seen registry.new)) }
+    ensures ready { IfOk result (IsTreeReady place.now (edges_by manifest.now) reached (trees (P.seen project.old) (R.seen registry.old))) }
+    ensures refused { (out : Taken) → IfErr result (Refuses (tree.Cause (graph_of place.now (edges_by manifest.now) reached)) (world (P.seen project.old) (R.seen registry.old) out) (world (P.seen project.new) (R.seen registry.new) out)) }
+    ensures project { Keeps (P.seen project.old) (P.seen project.new) }
+    ensures registry { Keeps (R.seen registry.old) (R.seen registry.new) }
 {
     let modules = match nothing_stands(alloc, place, "node_modules", project) {
         Ok(modules) => modules,

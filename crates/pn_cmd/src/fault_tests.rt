@@ -109,51 +109,32 @@ fn each_failed_call_of_the_registry_is_told(rt: HostRuntime) -> Result<(), Fail>
 }
 
 #[test]
-fn a_failed_report_is_told(rt: HostRuntime) -> Result<(), Fail> {
+fn a_sink_that_fails_is_told_or_passed_over(rt: HostRuntime) -> Result<(), Fail> {
     let alloc = rt.alloc();
-    for (k, code, text) in [(0, 23, "pnpm-rs: output fault\n"), (1, 0, "")] {
-        let mut project = SureFs::new(alloc);
-        fill(alloc, &mut project, "/w/package.json {}")?;
+    // a dependency that isn't there is refused, and then no report is asked for
+    for (project, out_fails, err_fails, code, calls, text) in [
+        ("/w/package.json {}", 0, 1, 23, 1, "pnpm-rs: output fault\n"),
+        ("/w/package.json {}", 1, 0, 0, 1, ""),
+        (PROJECT, 0, 0, 6, 0, ""),
+    ] {
+        let mut tree = SureFs::new(alloc);
+        fill(alloc, &mut tree, project)?;
         let mut registry = SureFs::new(alloc);
-        let mut out = MemSink::new(alloc, vec![in alloc; k]?);
-        let mut err = SureSink::new(alloc);
+        let mut out = MemSink::new(alloc, vec![in alloc; out_fails]?);
+        let mut err = MemSink::new(alloc, vec![in alloc; err_fails]?);
         let answer = run_in(
             alloc,
             "/w",
             "install",
-            &mut project,
+            &mut tree,
             &mut registry,
             &mut out,
             &mut err,
         )?;
         assert_eq!(rt; answer, code);
-        assert_eq!(rt; out.calls(), 1);
+        assert_eq!(rt; out.calls(), calls);
         assert_eq!(rt; err.bytes(), text.as_bytes());
-        assert!(rt; stands(alloc, &mut project)?);
+        assert_eq!(rt; stands(alloc, &mut tree)?, code != 6);
     }
-    Ok(())
-}
-
-#[test]
-fn a_refusal_that_cannot_be_told_stays(rt: HostRuntime) -> Result<(), Fail> {
-    let alloc = rt.alloc();
-    let mut project = SureFs::new(alloc);
-    fill(alloc, &mut project, PROJECT)?;
-    let mut registry = SureFs::new(alloc);
-    fill(alloc, &mut registry, A)?;
-    let mut out = SureSink::new(alloc);
-    let mut err = MemSink::new(alloc, vec![in alloc; 0]?);
-    let code = run_in(
-        alloc,
-        "/w",
-        "install",
-        &mut project,
-        &mut registry,
-        &mut out,
-        &mut err,
-    )?;
-    assert_eq!(rt; code, 6);
-    assert_eq!(rt; err.calls(), 1);
-    assert_eq!(rt; err.bytes().len(), 0);
     Ok(())
 }

@@ -1,21 +1,19 @@
 // The point at which the packages are reached.
-ghost use Rattle.std.specs.Prelude.{◌≡◌, ◌++◌, List, Option, IfOk, IfErr, codes, string_bytes};
-ghost use Rattle.pn_fs.specs.Tree.{Tree};
-ghost use Rattle.pn_fs.specs.Seen.{Seen, Keeps};
-ghost use Rattle.pn_manifest.specs.Pairs.{Pair};
+ghost use Rattle.std.specs.Prelude.{◌≡◌, ◌≢◌, ◌⊎◌, ◌++◌, IfOk, IfErr, codes, string_bytes};
+ghost use Rattle.pn_fs.specs.Seen.{Seen, Taken, Keeps};
 ghost use Rattle.pn_registry.specs.Places.{manifest_path};
 ghost use Rattle.pn_choice.specs.Edges.{edges_by};
 ghost use Rattle.pn_choice.specs.Walked.{IsReached};
-ghost use Rattle.pn_choice.specs.Refusals.{IsStopped, Refuses};
 ghost use Rattle.pn_choice.specs.declared.fault.ReachFault.TheVariants.{Manifest as WrongManifest};
-ghost use Rattle.pn_cmd.specs.Refuses.{Computes, ReadsRegistry};
-ghost use Rattle.pn_cmd.specs.Graph.{Unreached, registry_text};
+ghost use Rattle.pn_cmd.specs.World.{world};
+ghost use Rattle.pn_cmd.specs.Points.{Refuses};
+ghost use Rattle.pn_cmd.specs.Graph.{Unreached, registry_text, reach_status};
 
-use crate::status::{ManifestWhy, Status, Which};
-use pn_choice::{PackageWhy, ReachFault, Reached, reach};
+use crate::status::{Status, Which};
+use pn_choice::{ReachFault, Reached, reach};
 use pn_fs::ReadFs;
-use pn_manifest::{ExactId, Manifest};
-use pn_text::{Memory, Text};
+use pn_manifest::{Manifest, ManifestWhy};
+use pn_text::{Memory, PkgId, Text};
 use std::alloc::{AllocError, Global};
 
 /// The packages that the project's dependencies reach.
@@ -25,7 +23,7 @@ pub fn reached<R: ReadFs>(
     registry: &mut R,
 ) -> Result<Reached, Status>
     ensures reached { IfOk result (IsReached (R.seen registry.old).tree (edges_by manifest.now)) }
-    ensures refused { IfErr result (ReadsRegistry (Unreached (edges_by manifest.now) (R.seen registry.old).tree) (R.seen registry.old) (R.seen registry.new)) }
+    ensures refused { (project : Seen) (out : Taken) → IfErr result (Refuses (Unreached (edges_by manifest.now)) (world project (R.seen registry.old) out) (world project (R.seen registry.new) out)) }
     ensures kept { Keeps (R.seen registry.old) (R.seen registry.new) }
 {
     match reach(alloc, registry, manifest) {
@@ -36,7 +34,7 @@ pub fn reached<R: ReadFs>(
 
 // The status where a package isn't reached.
 fn unreached(alloc: Global, fault: ReachFault) -> Status
-    ensures { (own : List Pair) (old new : Seen) → Refuses (IsStopped own) old new fault → ReadsRegistry (Unreached own old.tree) old new result }
+    ensures { (result ≡ reach_status fault) ⊎ (result ≡ Status.Memory) }
 {
     match fault {
         ReachFault::NotYet(text) => Status::NotYet(text),
@@ -50,14 +48,9 @@ fn unreached(alloc: Global, fault: ReachFault) -> Status
 }
 
 // The status for a wrong manifest of a package.
-fn bad_manifest(alloc: Global, id: ExactId, why: PackageWhy) -> Status
-    ensures { (own : List Pair) (r : Option Tree) → IsStopped own r (WrongManifest id why) → Computes (Unreached own r) result }
+fn bad_manifest(alloc: Global, id: PkgId, why: ManifestWhy) -> Status
+    ensures { (result ≡ reach_status (WrongManifest id why)) ⊎ (result ≡ Status.Memory) }
 {
-    let why = match why {
-        PackageWhy::Missing => ManifestWhy::Missing,
-        PackageWhy::NotJson => ManifestWhy::NotJson,
-        PackageWhy::BadField(field, key) => ManifestWhy::BadField(field, key),
-    };
     match manifest_text(alloc, &id) {
         Ok(text) => Status::Manifest(text, why),
         Err(_) => Status::Memory,
@@ -65,11 +58,11 @@ fn bad_manifest(alloc: Global, id: ExactId, why: PackageWhy) -> Status
 }
 
 // The path of a package's manifest in the registry, as it is told.
-fn manifest_text(alloc: Global, id: &ExactId) -> Result<Text, Memory>
+fn manifest_text(alloc: Global, id: &PkgId) -> Result<Text, Memory>
     ensures { IfOk result (λ text. text ≡ registry_text (manifest_path id.now)) }
 {
     let name = id.name().as_path(alloc)?;
-    let Ok(line) = manifest_line(alloc, name.as_str(), id.version().as_str()) else {
+    let Ok(line) = manifest_line(alloc, name.as_str(), id.version_text()) else {
         return Err(Memory);
     };
     Text::of(alloc, line.as_str())

@@ -12,6 +12,7 @@ mod faults;
 #[cfg(test)]
 mod fixtures;
 mod graph;
+mod laws;
 mod manifest;
 mod packages;
 mod plan;
@@ -27,6 +28,8 @@ mod top;
 mod words;
 mod write;
 
-pub use status::{ManifestWhy, Status, Which};
+pub use laws::{cause_law, lookup_law, order_law, point_law, settled_law};
+pub use pn_manifest::ManifestWhy;
+pub use status::{Status, Which};
 pub use text::tell;
-pub use top::{order_law, run};
+pub use top::run;

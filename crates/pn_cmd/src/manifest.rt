@@ -1,20 +1,22 @@
 // The point of the project's manifest.
-ghost use Rattle.std.specs.Prelude.{◌≡◌, ◌∷◌, ℕ, List, IfOk, IfErr, IfSome};
-ghost use Rattle.pn_fs.specs.Seen.{Keeps};
+ghost use Rattle.std.specs.Prelude.{◌≡◌, ◌≤◌, ◌∷◌, ℕ, List, length, IfOk, IfErr, IfSome};
+ghost use Rattle.pn_text.specs.declared.limits.TheConstants.{PATH_LIMIT};
+ghost use Rattle.pn_text.specs.Path.{path_text};
+ghost use Rattle.pn_fs.specs.Seen.{Seen, Taken, Keeps};
 ghost use Rattle.pn_manifest.specs.Refusals.{ManifestRefused};
 ghost use Rattle.pn_cmd.specs.Names.{package_name};
-ghost use Rattle.pn_cmd.specs.Refuses.{ReadsProject, Computes};
-ghost use Rattle.pn_cmd.specs.Manifests.{NoManifest, IsFound, IsText, FoundIn, BytesRefused};
+ghost use Rattle.pn_choice.specs.Edges.{edges_by};
+ghost use Rattle.pn_cmd.specs.World.{world};
+ghost use Rattle.pn_cmd.specs.Points.{Refuses};
+ghost use Rattle.pn_cmd.specs.Manifests.{NoManifest, Declares, IsText, FoundIn, BytesRefused};
 
 use crate::entry::{EntryFault, entry};
-use crate::status::{ManifestWhy, Status, Which};
+use crate::status::{Status, Which};
 use pn_fs::ReadFs;
-use pn_manifest::{Manifest, ManifestFault};
+use pn_manifest::{Manifest, ManifestFault, ManifestWhy};
 use pn_read::{SmallFault, read_small};
-use pn_text::{AbsPath, Text};
+use pn_text::{AbsPath, TEXT_LIMIT, Text};
 use std::alloc::Global;
-
-const TEXT_LIMIT: u64 = 16777216;
 
 /// Reads the manifest in the project's folder.
 pub fn read_manifest<P: ReadFs>(
@@ -22,8 +24,8 @@ pub fn read_manifest<P: ReadFs>(
     folder: &AbsPath,
     project: &mut P,
 ) -> Result<Manifest, Status>
-    ensures found { IfOk result (IsFound (P.seen project.old).tree (package_name ∷ folder.now)) }
-    ensures refused { IfErr result (ReadsProject (NoManifest (package_name ∷ folder.now) (P.seen project.old).tree) (P.seen project.old) (P.seen project.new)) }
+    ensures found { IfOk result (λ m. Declares (P.seen project.old).tree (package_name ∷ folder.now) (edges_by m)) }
+    ensures refused { (registry : Seen) (out : Taken) → IfErr result (Refuses (NoManifest (package_name ∷ folder.now)) (world (P.seen project.old) registry out) (world (P.seen project.new) registry out)) }
     ensures kept { Keeps (P.seen project.old) (P.seen project.new) }
 {
     let path = match entry(alloc, folder, "package.json") {
@@ -40,8 +42,9 @@ pub fn read_manifest<P: ReadFs>(
 
 // Reads a file of the project within the limit.
 fn read_text<P: ReadFs>(alloc: Global, path: &AbsPath, project: &mut P) -> Result<Vec<u8>, Status>
+    requires { length (path_text path.now) ≤ PATH_LIMIT }
     ensures found { IfOk result (λ v. IfSome (P.seen project.old).tree (λ t. IsText (t path.now) v.items)) }
-    ensures refused { IfErr result (ReadsProject (NoManifest path.now (P.seen project.old).tree) (P.seen project.old) (P.seen project.new)) }
+    ensures refused { (registry : Seen) (out : Taken) → IfErr result (Refuses (NoManifest path.now) (world (P.seen project.old) registry out) (world (P.seen project.new) registry out)) }
     ensures kept { Keeps (P.seen project.old) (P.seen project.new) }
 {
     match read_small(alloc, project, path, TEXT_LIMIT) {
@@ -59,7 +62,7 @@ fn read_text<P: ReadFs>(alloc: Global, path: &AbsPath, project: &mut P) -> Resul
 // The manifest that the bytes say.
 fn parse(alloc: Global, path: &AbsPath, bytes: &[u8]) -> Result<Manifest, Status>
     ensures found { IfOk result (FoundIn bytes.now) }
-    ensures refused { IfErr result (Computes (BytesRefused path.now bytes.now)) }
+    ensures refused { IfErr result (BytesRefused path.now bytes.now) }
 {
     let manifest = match Manifest::read(alloc, bytes) {
         Ok(manifest) => manifest,
@@ -80,11 +83,10 @@ fn parse(alloc: Global, path: &AbsPath, bytes: &[u8]) -> Result<Manifest, Status
 
 // The status for a refused manifest.
 fn refusal(alloc: Global, path: &AbsPath, fault: ManifestFault) -> Status
-    ensures { (bytes : List ℕ) → ManifestRefused bytes fault → Computes (BytesRefused path.now bytes) result }
+    ensures { (bytes : List ℕ) → ManifestRefused bytes fault → BytesRefused path.now bytes result }
 {
     let why = match fault {
-        ManifestFault::NotJson => ManifestWhy::NotJson,
-        ManifestFault::BadField(field, key) => ManifestWhy::BadField(field, key),
+        ManifestFault::Wrong(why) => why,
         ManifestFault::Memory => return Status::Memory,
     };
     match Text::of(alloc, path.as_str()) {

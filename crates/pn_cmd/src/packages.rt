@@ -1,16 +1,14 @@
 // The point at which the packages' files are listed.
-ghost use Rattle.std.specs.Prelude.{◌≡◌, ◌++◌, List, Option, IfOk, IfErr, codes, string_bytes};
-ghost use Rattle.pn_fs.specs.Tree.{Tree};
-ghost use Rattle.pn_fs.specs.Seen.{Seen, Keeps};
+ghost use Rattle.std.specs.Prelude.{◌≡◌, ◌⊎◌, ◌++◌, IfOk, IfErr, codes, string_bytes};
+ghost use Rattle.pn_fs.specs.Seen.{Seen, Taken, Keeps};
 ghost use Rattle.pn_choice.specs.Edges.{edges_by};
 ghost use Rattle.pn_choice.specs.Walked.{IsReached};
-ghost use Rattle.pn_choice.specs.declared.package.Package.{Package as Found};
-ghost use Rattle.pn_collect.specs.CollectFaults.{IsFirstRefused, CollectRefuses};
 ghost use Rattle.pn_collect.specs.Packages.{ArePackages};
 ghost use Rattle.pn_collect.specs.declared.fault.CollectFault.TheVariants.{Modules as HasModulesPart};
-ghost use Rattle.pn_cmd.specs.Refuses.{Computes, ReadsRegistry};
+ghost use Rattle.pn_cmd.specs.World.{world};
+ghost use Rattle.pn_cmd.specs.Points.{Refuses};
 ghost use Rattle.pn_cmd.specs.Graph.{registry_text};
-ghost use Rattle.pn_cmd.specs.Packages.{Unlisted};
+ghost use Rattle.pn_cmd.specs.Packages.{Unlisted, collect_status};
 
 use crate::status::{Status, Which};
 use pn_choice::Reached;
@@ -18,7 +16,7 @@ use pn_collect::{CollectFault, collect};
 use pn_fs::ReadFs;
 use pn_layout::Package;
 use pn_manifest::Manifest;
-use pn_text::{AbsPath, Memory, Text};
+use pn_text::{AbsPath, ENTRY_LIMIT, Memory, Text};
 use std::alloc::Global;
 
 /// The packages with their files, in byte order of `name@version`.
@@ -30,7 +28,7 @@ pub fn packages<R: ReadFs>(
 ) -> Result<Vec<Package>, Status>
     requires { IsReached (R.seen registry.old).tree (edges_by manifest.now) reached }
     ensures packages { IfOk result (λ v. ArePackages (R.seen registry.old).tree (edges_by manifest.now) reached v.items) }
-    ensures refused { IfErr result (ReadsRegistry (Unlisted reached (R.seen registry.old).tree) (R.seen registry.old) (R.seen registry.new)) }
+    ensures refused { (project : Seen) (out : Taken) → IfErr result (Refuses (Unlisted reached) (world project (R.seen registry.old) out) (world project (R.seen registry.new) out)) }
     ensures kept { Keeps (R.seen registry.old) (R.seen registry.new) }
 {
     match collect(alloc, registry, manifest, reached) {
@@ -41,13 +39,12 @@ pub fn packages<R: ReadFs>(
 
 // The status where a package has no files.
 fn unlisted(alloc: Global, fault: CollectFault) -> Status
-    ensures { (met : List Found) (old new : Seen) → CollectRefuses (IsFirstRefused met) old new fault → ReadsRegistry (Unlisted met old.tree) old new result }
+    ensures { (result ≡ collect_status fault) ⊎ (result ≡ Status.Memory) }
 {
     match fault {
         CollectFault::Modules(path) => has_modules(alloc, &path),
         CollectFault::TooLarge(length) => Status::Limit(Which::File, length),
-        CollectFault::LongPath(length) => Status::Limit(Which::Path, length),
-        CollectFault::Entries => Status::Limit(Which::Entries, 4194305),
+        CollectFault::Entries => Status::Limit(Which::Entries, ENTRY_LIMIT + 1),
         CollectFault::Fault => Status::RegistryFault,
         CollectFault::Memory => Status::Memory,
     }
@@ -55,7 +52,7 @@ fn unlisted(alloc: Global, fault: CollectFault) -> Status
 
 // The status for a package's file with a part `node_modules`.
 fn has_modules(alloc: Global, path: &AbsPath) -> Status
-    ensures { (met : List Found) (r : Option Tree) → IsFirstRefused met r (HasModulesPart path.now) → Computes (Unlisted met r) result }
+    ensures { (result ≡ collect_status (HasModulesPart path.now)) ⊎ (result ≡ Status.Memory) }
 {
     match path_text(alloc, path) {
         Ok(text) => Status::NotYet(text),

@@ -1,10 +1,13 @@
 // What is written, and what is reported of it.
-ghost use Rattle.std.specs.Prelude.{◌≡◌, ◌∷◌, OnOk, IfOk, IfErr, string_bytes};
+ghost use Rattle.std.specs.Prelude.{◌≡◌, ◌∷◌, List, IfOk, IfErr, string_bytes};
 ghost use Rattle.pn_layout.specs.Sound.{AreSound, AreSoundDependencies};
 ghost use Rattle.pn_choice.specs.Edges.{edges_by};
-ghost use Rattle.pn_cmd.specs.Names.{modules_name};
-ghost use Rattle.pn_cmd.specs.Refuses.{Computes};
-ghost use Rattle.pn_cmd.specs.Plans.{TooLong, Fits, IsPlan};
+ghost use Rattle.pn_choice.specs.declared.package.Package.{Package as Found};
+ghost use Rattle.pn_cmd.specs.World.{World};
+ghost use Rattle.pn_cmd.specs.Points.{Refuses};
+ghost use Rattle.pn_cmd.specs.Names.{modules_path};
+ghost use Rattle.pn_cmd.specs.Known.{sources_of};
+ghost use Rattle.pn_cmd.specs.Plans.{TooLong, IsPlanned};
 ghost use Rattle.pn_cmd.specs.Reports.{report_of};
 
 use crate::status::{Status, Which};
@@ -22,12 +25,11 @@ pub fn plan(
     manifest: &Manifest,
     packages: &[Package],
 ) -> Result<PlannedTree, Status>
-    requires modules { modules.now ≡ modules_name ∷ place.now }
+    requires modules { modules.now ≡ modules_path place.now }
     requires direct { AreSoundDependencies (edges_by manifest.now) }
     requires sound { AreSound packages.now }
-    ensures plan { IfOk result (IsPlan place.now (edges_by manifest.now) packages.now) }
-    ensures fits { OnOk result (Fits place.now (edges_by manifest.now) packages.now) }
-    ensures refused { IfErr result (Computes (TooLong place.now (edges_by manifest.now) packages.now)) }
+    ensures planned { (met : List Found) → IfOk result (IsPlanned (sources_of place.now (edges_by manifest.now) met packages.now)) }
+    ensures refused { (met : List Found) (w : World) → IfErr result (Refuses (TooLong (sources_of place.now (edges_by manifest.now) met packages.now)) w w) }
 {
     let direct = match manifest.edges(alloc) {
         Ok(direct) => direct,

@@ -7,132 +7,136 @@ use std::test::Fail;
 
 const LEAF: &str = r#"/a/1.0.0/package.json {"name":"a","version":"1.0.0"}"#;
 
-#[test]
-fn a_dependency_that_is_not_there_is_refused(rt: HostRuntime) -> Result<(), Fail> {
-    let alloc = rt.alloc();
-    let mut ended = run_over(alloc, "install", PROJECT, A)?;
-    assert_eq!(rt; ended.code, 6);
-    assert_eq!(rt; ended.out.bytes().len(), 0);
-    assert_eq!(rt;
-        ended.err.bytes(),
-        b"pnpm-rs: no version: a@1.0.0 needs b@1.0.0\n".as_slice()
-    );
-    let modules = shown(alloc, &mut ended.project, "/w/node_modules")?;
-    assert_eq!(rt; modules.as_str(), "nothing");
-    Ok(())
-}
+// What is refused: the words, the project's files and the registry's, and then the exit status and the text.
+const REFUSALS: [(&str, &str, &str, u8, &str); 19] = [
+    ("", PROJECT, LEAF, 2, "usage: install"),
+    ("update", PROJECT, LEAF, 2, "usage: install"),
+    ("install --foo", PROJECT, LEAF, 2, "usage: install"),
+    (
+        "install",
+        "/w/package.json {",
+        "",
+        3,
+        "manifest: /w/package.json: not JSON",
+    ),
+    (
+        "install",
+        r#"/w/package.json {"dependencies":{"_x":"1"}}"#,
+        "",
+        3,
+        "manifest: /w/package.json: bad field dependencies _x",
+    ),
+    (
+        "install",
+        r#"/w/package.json {"dependencies":{"x":"1.0.0"}}"#,
+        "",
+        6,
+        "no version: . needs x@1.0.0",
+    ),
+    (
+        "install",
+        r#"/w/package.json {"dependencies":{"x":"^1.0.0"}}"#,
+        "",
+        30,
+        "not yet: ^1.0.0",
+    ),
+    (
+        "install",
+        r#"/w/package.json {"peerDependencies":{"x":"1.0.0"}}"#,
+        "",
+        30,
+        "not yet: peerDependencies",
+    ),
+    (
+        "install",
+        r#"/w/package.json {"devDependencies":{"x":"1.0.0"}}"#,
+        "",
+        30,
+        "not yet: devDependencies",
+    ),
+    (
+        "install",
+        "/w/pnpm-workspace.yaml x",
+        LEAF,
+        30,
+        "not yet: /w/pnpm-workspace.yaml",
+    ),
+    (
+        "install",
+        "/w/package.json {}\n/w/pnpm-lock.yaml x",
+        LEAF,
+        30,
+        "not yet: /w/pnpm-lock.yaml",
+    ),
+    (
+        "install",
+        "/w/package.json {}\n/w/node_modules/x x",
+        LEAF,
+        30,
+        "not yet: /w/node_modules",
+    ),
+    (
+        "install",
+        "/w/x x",
+        "",
+        3,
+        "manifest: /w/package.json: missing",
+    ),
+    (
+        "install",
+        PROJECT,
+        A,
+        6,
+        "no version: a@1.0.0 needs b@1.0.0",
+    ),
+    (
+        "install",
+        PROJECT,
+        "/a/1.0.0/package.json {",
+        3,
+        "manifest: registry:/a/1.0.0/package.json: not JSON",
+    ),
+    (
+        "install",
+        PROJECT,
+        "/a/1.0.0/index.js first",
+        3,
+        "manifest: registry:/a/1.0.0/package.json: missing",
+    ),
+    (
+        "install",
+        PROJECT,
+        r#"/a/1.0.0/package.json {"name":"a","version":"1.0.1"}"#,
+        3,
+        "manifest: registry:/a/1.0.0/package.json: bad field version ",
+    ),
+    (
+        "install",
+        PROJECT,
+        r#"/a/1.0.0/package.json {"name":"a","version":"1.0.0","peerDependencies":{"b":"1.0.0"}}"#,
+        30,
+        "not yet: peerDependencies",
+    ),
+    (
+        "install",
+        PROJECT,
+        "/a/1.0.0/package.json {\"name\":\"a\",\"version\":\"1.0.0\"}\n/a/1.0.0/lib/node_modules/x.js x",
+        30,
+        "not yet: registry:/a/1.0.0/lib/node_modules/x.js",
+    ),
+];
 
 #[test]
-fn other_words_are_refused(rt: HostRuntime) -> Result<(), Fail> {
+fn refusals_are_told_and_nothing_is_written(rt: HostRuntime) -> Result<(), Fail> {
     let alloc = rt.alloc();
-    for words in ["", "update", "install --foo"] {
-        let ended = run_over(alloc, words, PROJECT, LEAF)?;
-        assert_eq!(rt; ended.code, 2);
-        assert_eq!(rt; ended.err.bytes(), b"pnpm-rs: usage: install\n".as_slice());
-    }
-    Ok(())
-}
-
-#[test]
-fn a_wrong_manifest_of_the_project_is_refused(rt: HostRuntime) -> Result<(), Fail> {
-    let alloc = rt.alloc();
-    let table = [
-        ("{", 3, "manifest: /w/package.json: not JSON"),
-        (
-            r#"{"dependencies":{"_x":"1"}}"#,
-            3,
-            "manifest: /w/package.json: bad field dependencies _x",
-        ),
-        (
-            r#"{"dependencies":{"x":"1.0.0"}}"#,
-            6,
-            "no version: . needs x@1.0.0",
-        ),
-        (r#"{"dependencies":{"x":"^1.0.0"}}"#, 30, "not yet: ^1.0.0"),
-        (
-            r#"{"peerDependencies":{"x":"1.0.0"}}"#,
-            30,
-            "not yet: peerDependencies",
-        ),
-        (
-            r#"{"devDependencies":{"x":"1.0.0"}}"#,
-            30,
-            "not yet: devDependencies",
-        ),
-    ];
-    for (manifest, code, text) in table {
-        let project = format!(in alloc; "/w/package.json {manifest}")?;
+    for (words, project, registry, code, text) in REFUSALS {
         let line = format!(in alloc; "pnpm-rs: {text}\n")?;
-        let ended = run_over(alloc, "install", project.as_str(), "")?;
+        let mut ended = run_over(alloc, words, project, registry)?;
         assert_eq!(rt; ended.code, code);
         assert_eq!(rt; ended.out.bytes().len(), 0);
         assert_eq!(rt; ended.err.bytes(), line.as_bytes());
-    }
-    Ok(())
-}
-
-#[test]
-fn a_wrong_package_is_refused(rt: HostRuntime) -> Result<(), Fail> {
-    let alloc = rt.alloc();
-    let table = [
-        (
-            "package.json {",
-            3,
-            "manifest: registry:/a/1.0.0/package.json: not JSON",
-        ),
-        (
-            "index.js first",
-            3,
-            "manifest: registry:/a/1.0.0/package.json: missing",
-        ),
-        (
-            r#"package.json {"name":"a","version":"1.0.1"}"#,
-            3,
-            "manifest: registry:/a/1.0.0/package.json: bad field version ",
-        ),
-        (
-            r#"package.json {"name":"a","version":"1.0.0","peerDependencies":{"b":"1.0.0"}}"#,
-            30,
-            "not yet: peerDependencies",
-        ),
-    ];
-    for (file, code, text) in table {
-        let registry = format!(in alloc; "/a/1.0.0/{file}")?;
-        let line = format!(in alloc; "pnpm-rs: {text}\n")?;
-        let ended = run_over(alloc, "install", PROJECT, registry.as_str())?;
-        assert_eq!(rt; ended.code, code);
-        assert_eq!(rt; ended.out.bytes().len(), 0);
-        assert_eq!(rt; ended.err.bytes(), line.as_bytes());
-    }
-    Ok(())
-}
-
-#[test]
-fn a_file_of_a_package_in_a_managed_folder_is_refused(rt: HostRuntime) -> Result<(), Fail> {
-    let alloc = rt.alloc();
-    let registry = format!(in alloc; "{LEAF}\n/a/1.0.0/lib/node_modules/x.js x")?;
-    let ended = run_over(alloc, "install", PROJECT, registry.as_str())?;
-    assert_eq!(rt; ended.code, 30);
-    assert_eq!(rt;
-        ended.err.bytes(),
-        b"pnpm-rs: not yet: registry:/a/1.0.0/lib/node_modules/x.js\n".as_slice()
-    );
-    Ok(())
-}
-
-#[test]
-fn what_stands_in_the_project_is_refused(rt: HostRuntime) -> Result<(), Fail> {
-    let alloc = rt.alloc();
-    for (file, path) in [
-        ("pnpm-workspace.yaml", "pnpm-workspace.yaml"),
-        ("pnpm-lock.yaml", "pnpm-lock.yaml"),
-        ("node_modules/x", "node_modules"),
-    ] {
-        let project = format!(in alloc; "{PROJECT}\n/w/{file} x")?;
-        let line = format!(in alloc; "pnpm-rs: not yet: /w/{path}\n")?;
-        let ended = run_over(alloc, "install", project.as_str(), LEAF)?;
-        assert_eq!(rt; ended.code, 30);
-        assert_eq!(rt; ended.err.bytes(), line.as_bytes());
+        let store = shown(alloc, &mut ended.project, "/w/node_modules/.pnpm")?;
+        assert_eq!(rt; store.as_str(), "nothing");
     }
     Ok(())
 }

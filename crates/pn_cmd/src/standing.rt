@@ -1,9 +1,10 @@
 // The points at which nothing is to stand.
-ghost use Rattle.std.specs.Prelude.{◌≡◌, ◌≤◌, ◌∷◌, length, IsTrue, OnOk, IfOk, IfErr};
+ghost use Rattle.std.specs.Prelude.{◌≡◌, ◌∷◌, IsTrue, OnOk, IfOk, IfErr};
 ghost use Rattle.pn_text.specs.Path.{is_part};
-ghost use Rattle.pn_fs.specs.Seen.{Keeps};
-ghost use Rattle.pn_cmd.specs.Refuses.{ReadsProject};
-ghost use Rattle.pn_cmd.specs.Standing.{NothingStands, Stands};
+ghost use Rattle.pn_fs.specs.Seen.{Seen, Taken, Keeps};
+ghost use Rattle.pn_cmd.specs.World.{world};
+ghost use Rattle.pn_cmd.specs.Points.{Refuses};
+ghost use Rattle.pn_cmd.specs.Standing.{NothingStands, Stands, IsStood};
 
 use crate::entry::{EntryFault, entry};
 use crate::status::{Status, Which};
@@ -19,10 +20,9 @@ pub fn nothing_stands<P: ReadFs>(
     project: &mut P,
 ) -> Result<AbsPath, Status>
     requires part { IsTrue (is_part part.now) }
-    requires short { length part.now ≤ 255 }
     ensures path { IfOk result (λ p. p ≡ part.now ∷ folder.now) }
     ensures passed { OnOk result (NothingStands (P.seen project.old).tree (part.now ∷ folder.now)) }
-    ensures refused { IfErr result (ReadsProject (Stands (part.now ∷ folder.now) (P.seen project.old).tree) (P.seen project.old) (P.seen project.new)) }
+    ensures refused { (registry : Seen) (out : Taken) → IfErr result (Refuses (Stands (part.now ∷ folder.now)) (world (P.seen project.old) registry out) (world (P.seen project.new) registry out)) }
     ensures kept { Keeps (P.seen project.old) (P.seen project.new) }
 {
     let path = match entry(alloc, folder, part) {
@@ -31,12 +31,23 @@ pub fn nothing_stands<P: ReadFs>(
         Err(EntryFault::Memory) => return Err(Status::Memory),
     };
     match project.kind(&path) {
-        Ok(Kind::Absent) => Ok(path),
-        Ok(_) => {
-            let text = Text::of(alloc, path.as_str())?;
-            Err(Status::NotYet(text))
-        }
+        Ok(kind) => free_path(alloc, path, kind),
         Err(DevFault::Failed) => Err(Status::ProjectFault),
         Err(DevFault::Memory) => Err(Status::Memory),
+    }
+}
+
+// The path, where this is what stands there: nothing.
+fn free_path(alloc: Global, path: AbsPath, kind: Kind) -> Result<AbsPath, Status>
+    ensures path { IfOk result (λ p. p ≡ path) }
+    ensures free { OnOk result (kind ≡ Kind.Absent) }
+    ensures stood { IfErr result (IsStood path kind) }
+{
+    if let Kind::Absent = kind {
+        return Ok(path);
+    }
+    match Text::of(alloc, path.as_str()) {
+        Ok(text) => Err(Status::NotYet(text)),
+        Err(_) => Err(Status::Memory),
     }
 }

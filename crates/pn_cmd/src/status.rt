@@ -2,6 +2,7 @@
 ghost use Rattle.std.specs.Prelude.{◌≡◌};
 ghost use Rattle.pn_cmd.specs.Codes.{code_of};
 
+use pn_manifest::ManifestWhy;
 use pn_text::{Edge, Text};
 
 /// How a run ends: done, or the first refusal in the order of an install.
@@ -27,14 +28,6 @@ pub enum Status {
     SinkFault,
     /// The path, field or specifier is valid and isn't built yet.
     NotYet(Text),
-}
-
-/// What is wrong with a manifest: a field and a key in it, which is empty for the field itself.
-#[derive(Drop)]
-pub enum ManifestWhy {
-    Missing,
-    NotJson,
-    BadField(Text, Text),
 }
 
 /// What is limited: 16,384 packages, 268,435,456 bytes of a package's file, 16,777,216 bytes of a

@@ -1,6 +1,7 @@
 // Projects that are installed.
 
 use crate::fixtures::{A, B, PROJECT, run_over, shown};
+use std::alloc::Global;
 use std::test::Fail;
 
 // A package with a scope, and one without, that depend on each other.
@@ -9,31 +10,34 @@ const CYCLE: &str = r#"
 /b/1.0.0/package.json {"name":"b","version":"1.0.0","dependencies":{"@s/a":"1.0.0"}}
 "#;
 
-#[test]
-fn an_empty_project_is_installed(rt: HostRuntime) -> Result<(), Fail> {
-    let alloc = rt.alloc();
-    let ended = run_over(alloc, "install", "/w/package.json {}", "")?;
-    assert_eq!(rt; ended.code, 0);
-    assert_eq!(rt;
-        ended.out.bytes(),
-        b"projects 1\npackages 0\ninstances 0\n".as_slice()
-    );
-    assert_eq!(rt; ended.err.bytes().len(), 0);
-    Ok(())
+// Whether the run is done, with this report and these entries of `node_modules`.
+fn is_installed(
+    alloc: Global,
+    project: &str,
+    registry: &str,
+    report: &str,
+    entries: &[(&str, &str)],
+) -> Result<bool, Fail> {
+    let mut ended = run_over(alloc, "install", project, registry)?;
+    let mut same = ended.code == 0
+        && ended.out.bytes() == report.as_bytes()
+        && ended.err.bytes().is_empty();
+    for (path, text) in entries {
+        let path = format!(in alloc; "/w/node_modules/{path}")?;
+        let found = shown(alloc, &mut ended.project, path.as_str())?;
+        same = same && found.as_str() == *text;
+    }
+    Ok(same)
 }
 
 #[test]
-fn a_package_and_its_dependency_are_installed(rt: HostRuntime) -> Result<(), Fail> {
+fn projects_are_installed(rt: HostRuntime) -> Result<(), Fail> {
     let alloc = rt.alloc();
+    let report = "projects 1\npackages 0\ninstances 0\n";
+    assert!(rt; is_installed(alloc, "/w/package.json {}", "", report, [].as_slice())?);
     let registry = format!(in alloc; "{A}{B}")?;
-    let mut ended = run_over(alloc, "install", PROJECT, registry.as_str())?;
-    assert_eq!(rt; ended.code, 0);
-    assert_eq!(rt;
-        ended.out.bytes(),
-        b"projects 1\npackages 2\ninstances 2\n".as_slice()
-    );
-    assert_eq!(rt; ended.err.bytes().len(), 0);
-    let table = [
+    let report = "projects 1\npackages 2\ninstances 2\n";
+    let entries = [
         (".pnpm-rs", "pnpm-rs 1\n"),
         ("a", "to .pnpm/a@1.0.0/node_modules/a"),
         (".pnpm/a@1.0.0/node_modules/a/index.js", "first"),
@@ -43,21 +47,17 @@ fn a_package_and_its_dependency_are_installed(rt: HostRuntime) -> Result<(), Fai
         ),
         (".pnpm/b@1.0.0/node_modules/b/index.js", "second"),
     ];
-    for (path, text) in table {
-        let path = format!(in alloc; "/w/node_modules/{path}")?;
-        let found = shown(alloc, &mut ended.project, path.as_str())?;
-        assert_eq!(rt; found.as_str(), text);
-    }
-    Ok(())
-}
-
-#[test]
-fn packages_that_depend_on_each_other_are_installed(rt: HostRuntime) -> Result<(), Fail> {
-    let alloc = rt.alloc();
+    assert!(rt;
+        is_installed(
+            alloc,
+            PROJECT,
+            registry.as_str(),
+            report,
+            entries.as_slice()
+        )?
+    );
     let project = r#"/w/package.json {"dependencies":{"@s/a":"1.0.0"}}"#;
-    let mut ended = run_over(alloc, "install", project, CYCLE)?;
-    assert_eq!(rt; ended.code, 0);
-    let table = [
+    let entries = [
         ("@s/a", "to ../.pnpm/@s+a@1.0.0/node_modules/@s/a"),
         (
             ".pnpm/@s+a@1.0.0/node_modules/b",
@@ -68,10 +68,6 @@ fn packages_that_depend_on_each_other_are_installed(rt: HostRuntime) -> Result<(
             "to ../../../@s+a@1.0.0/node_modules/@s/a",
         ),
     ];
-    for (path, text) in table {
-        let path = format!(in alloc; "/w/node_modules/{path}")?;
-        let found = shown(alloc, &mut ended.project, path.as_str())?;
-        assert_eq!(rt; found.as_str(), text);
-    }
+    assert!(rt; is_installed(alloc, project, CYCLE, report, entries.as_slice())?);
     Ok(())
 }

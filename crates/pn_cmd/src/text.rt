@@ -1,19 +1,19 @@
 // What is told of a status.
-ghost use Rattle.std.specs.Prelude.{◌≡◌, ◌⊎◌, ◌≢◌, IfOk, string_bytes, codes, true, ◌++◌};
+ghost use Rattle.std.specs.Prelude.{◌≡◌, ◌⊎◌, IfOk, string_bytes, codes, true, false, ◌++◌};
 ghost use Rattle.std.specs.Fmt.{decimal};
-ghost use Rattle.pn_text.specs.Causes.{Rose};
-ghost use Rattle.pn_fs.specs.Takes.{told_more};
-ghost use Rattle.pn_cmd.specs.Texts.{status_line, why_text, which_text, edge_text, Tells};
+ghost use Rattle.pn_cmd.specs.Reports.{TookSome};
+ghost use Rattle.pn_cmd.specs.Texts.{status_line, why_text, which_text, edge_text, TellsLine, Tells, OrMemory};
 
-use crate::status::{ManifestWhy, Status, Which};
+use crate::status::{Status, Which};
 use pn_fs::Sink;
+use pn_manifest::ManifestWhy;
 use pn_text::{DevFault, Edge};
 use std::alloc::{AllocError, Global};
 
 /// Tells a refusal. It answers the status, or Memory where there was none to tell a refusal.
 pub fn tell<E: Sink>(alloc: Global, status: Status, err: &mut E) -> Status
-    ensures same { (result ≡ status) ⊎ ((result ≡ Status.Memory) × (status ≢ Status.Done)) }
-    ensures told { Tells (E.seen err.old) (E.seen err.new) result }
+    ensures same { OrMemory status result }
+    ensures told { Tells (OrMemory status) (E.seen err.old) (E.seen err.new) result }
 {
     if let Status::Done = &status {
         return status;
@@ -27,7 +27,8 @@ pub fn tell<E: Sink>(alloc: Global, status: Status, err: &mut E) -> Status
 
 // Whether there was memory to tell a refusal.
 fn tell_line<E: Sink>(alloc: Global, status: &Status, err: &mut E) -> bool
-    ensures { result ≡ true → (Rose (E.seen err.old).faults (E.seen err.new).faults → ⊥) → (E.seen err.new).bytes ≡ told_more (E.seen err.old).bytes (status_line status.now) }
+    ensures told { result ≡ true → TellsLine status.now (E.seen err.old) (E.seen err.new) }
+    ensures other { result ≡ false → TookSome (status_line status.now) (E.seen err.old) (E.seen err.new) ⊎ TookSome (status_line Status.Memory) (E.seen err.old) (E.seen err.new) }
 {
     let Ok(text) = line_of(alloc, status) else {
         let _ = err.write(b"pnpm-rs: out of memory\n");

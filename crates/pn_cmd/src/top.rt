@@ -1,9 +1,7 @@
 // The top call.
 ghost use Rattle.std.specs.Prelude.{map, string_bytes};
 ghost use Rattle.pn_cmd.specs.World.{world, inputs};
-ghost use Rattle.pn_cmd.specs.Order.{Ends};
-ghost use Rattle.pn_cmd.specs.Causes.{CauseOf, OrderLaw};
-ghost use Rattle.pn_cmd.specs.Lookup.{LookupOf};
+ghost use Rattle.pn_cmd.specs.Endings.{Ends};
 ghost use Rattle.pn_cmd.specs.Texts.{Tells};
 
 use crate::check::check;
@@ -28,9 +26,7 @@ pub fn run<P: Fs, R: ReadFs, O: Sink, E: Sink>(
     err: &mut E,
 ) -> Status
     ensures ends { Ends (inputs (map string_bytes words.now) place.now) (world (P.seen project.old) (R.seen registry.old) (O.seen out.old)) (world (P.seen project.new) (R.seen registry.new) (O.seen out.new)) result }
-    ensures cause { CauseOf (inputs (map string_bytes words.now) place.now) (world (P.seen project.old) (R.seen registry.old) (O.seen out.old)) (world (P.seen project.new) (R.seen registry.new) (O.seen out.new)) result }
-    ensures lookup { LookupOf (inputs (map string_bytes words.now) place.now) (world (P.seen project.old) (R.seen registry.old) (O.seen out.old)) (world (P.seen project.new) (R.seen registry.new) (O.seen out.new)) result }
-    ensures tells { Tells (E.seen err.old) (E.seen err.new) result }
+    ensures tells { Tells (Ends (inputs (map string_bytes words.now) place.now) (world (P.seen project.old) (R.seen registry.old) (O.seen out.old)) (world (P.seen project.new) (R.seen registry.new) (O.seen out.new))) (E.seen err.old) (E.seen err.new) result }
 {
     let status = install(alloc, words, place, project, registry, out);
     tell(alloc, status, err)
@@ -60,9 +56,3 @@ fn install<P: Fs, R: ReadFs, O: Sink>(
     }
     tell_report(report.as_str(), out)
 }
-
-/// Where a point of a run is passed, none of its causes stands; so the point that answers is the first
-/// that has a cause.
-pub fn order_law()
-    ensures { OrderLaw }
-{}

@@ -1,11 +1,13 @@
 // The writing of a tree and of its report.
 ghost use Rattle.std.specs.Prelude.{OnOk, OnErr, IfErr};
 ghost use Rattle.std.specs.Option.{ForSome};
-ghost use Rattle.pn_fs.specs.Seen.{Keeps};
+ghost use Rattle.pn_fs.specs.Seen.{Taken, Keeps};
 ghost use Rattle.pn_plan.specs.Plan.{is_planned, IsWritable, IsCopyable};
 ghost use Rattle.pn_plan.specs.Writes.{Writes, DiffersOnly};
-ghost use Rattle.pn_cmd.specs.World.{sources};
-ghost use Rattle.pn_cmd.specs.Writing.{Stops, Reported};
+ghost use Rattle.pn_cmd.specs.World.{world};
+ghost use Rattle.pn_cmd.specs.Points.{Refuses};
+ghost use Rattle.pn_cmd.specs.Endings.{Stops};
+ghost use Rattle.pn_cmd.specs.Reports.{Reported};
 
 use crate::status::{Status, Which};
 use pn_fs::{Fs, ReadFs, Sink};
@@ -26,7 +28,7 @@ pub fn write<P: Fs, R: ReadFs>(
     ensures ok { OnOk result (Writes (R.seen registry.old).tree plan.now (P.seen project.old).tree (P.seen project.new).tree) }
     ensures err { OnErr result (DiffersOnly (is_planned plan.now) (P.seen project.old).tree (P.seen project.new).tree) }
     ensures registry { Keeps (R.seen registry.old) (R.seen registry.new) }
-    ensures cause { IfErr result (Stops (sources (P.seen project.old) (R.seen registry.old)) (sources (P.seen project.new) (R.seen registry.new))) }
+    ensures cause { (out : Taken) → IfErr result (Refuses Stops (world (P.seen project.old) (R.seen registry.old) out) (world (P.seen project.new) (R.seen registry.new) out)) }
 {
     match write_plan(alloc, project, registry, plan) {
         Ok(()) => Ok(()),

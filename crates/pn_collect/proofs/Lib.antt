@@ -1,9 +1,11 @@
-pub mod Lists
+pub mod IdLists
 pub mod Whole
 pub mod Listing
 pub mod Causes
-pub mod Steps
+pub mod MoreLemmas
 pub mod Folders
 pub mod Firsts
-pub mod Counts
 pub mod Passed
+pub mod SortedTexts
+pub mod CauseLemmas
+pub mod SameLemmas

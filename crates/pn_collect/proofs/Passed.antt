@@ -5,19 +5,19 @@ use Rattle.std.proofs.lemmas.List.Elements.{Contains-append_right}
 use Rattle.std.proofs.lemmas.List.Sorted.{IsPermutation-sym, Contains-permutation}
 use Rattle.pn_text.specs.Path.{Path}
 use Rattle.pn_fs.specs.Tree.{Tree}
+use Rattle.pn_text.proofs.Members.{from_map, here, to_map}
 use Rattle.pn_node.specs.Plan.{IsSoundFile}
 use Rattle.pn_manifest.specs.Exact.{Id}
 use Rattle.pn_registry.specs.Below.{HasMany}
 use Rattle.pn_registry.specs.FilesFaults.{entry_limit}
 use Rattle.pn_registry.specs.Places.{package_folder}
-use Rattle.pn_registry.proofs.Lists.{here}
+use Rattle.pn_registry.proofs.Distinct.{no_longer}
 use Rattle.pn_collect.specs.CollectFaults.{NoFiles}
 use Rattle.pn_collect.specs.Laws.{PassedLaw}
 use Rattle.pn_collect.specs.Outline.{Outline, outline, wanted, AreFilesBelow}
 use Rattle.pn_collect.specs.declared.fault.CollectFault.{CollectFault}
-use Rattle.pn_collect.specs.declared.fault.CollectFault.TheVariants.{Modules, TooLarge, LongPath, Entries, Fault, Memory}
-use Rattle.pn_collect.proofs.Counts.{no_longer}
-use Rattle.pn_collect.proofs.Lists.{from_image, in_image, true_false}
+use Rattle.pn_collect.specs.declared.fault.CollectFault.TheVariants.{Modules, TooLarge, Entries, Fault, Memory}
+use Rattle.pn_collect.proofs.IdLists.{true_false}
 
 not_many : (t : Tree) (folder : Path) (files : List Path) → AreFilesBelow t folder files → HasMany t folder entry_limit → ⊥
 not_many t folder files h many =
@@ -31,14 +31,13 @@ not_many t folder files h many =
     omega (arith, no_longer many.paths h.few.paths many.distinct among, many.many, h.few.few)
 
 -- the files that are told show no cause
-has_files : (t : Tree) (id : Id) (files : List Path) (fault : CollectFault) → ((f : Path) → Contains files f → IsSoundFile f) → AreFilesBelow t (package_folder id) files → NoFiles (Some t) id fault → ⊥
+pub has_files : (t : Tree) (id : Id) (files : List Path) (fault : CollectFault) → ((f : Path) → Contains files f → IsSoundFile f) → AreFilesBelow t (package_folder id) files → NoFiles (Some t) id fault → ⊥
 has_files t id files (Modules path) sound h cause =
     let s = cause.3.first.stands in
     true_false (sym cause.2 ∙ (sound cause.0 (h.all cause.0 (s.0, s.1))).clean)
 has_files t id files (TooLarge n) sound h cause =
     let s = cause.2.first.stands in
     omega (arith, h.short cause.0 s.0 s.1, s.2, cause.1)
-has_files t id files (LongPath n) sound h cause = cc cause.untold
 has_files t id files Entries sound h cause = not_many t (package_folder id) files h cause
 has_files t id files Fault sound h cause = cause
 has_files t id files Memory sound h cause = cause
@@ -48,7 +47,7 @@ passed t own met packages fault all first =
     let q = first.at in
     let middle = Contains-append_right first.before (q ∷ first.rest) q (here q first.rest) in
     let c = Contains-permutation (first.before ++ q ∷ first.rest) met q (IsPermutation-sym met (first.before ++ q ∷ first.rest) first.all) middle in
-    let told = Contains-permutation (map wanted met) (map outline packages) (wanted q) all.exact (in_image wanted met q c) in
-    let p = from_image outline packages (wanted q) told in
+    let told = Contains-permutation (map wanted met) (map outline packages) (wanted q) all.exact (to_map wanted met q c) in
+    let p = from_map outline packages (wanted q) told in
     let folder : p.0.folder ≡ package_folder q.id = ap (λ (o : Outline). o.folder) p.2 in
     has_files t q.id p.0.files.items fault (all.sound.each p.0 p.1).files (subst (λ (f : Path). AreFilesBelow t f p.0.files.items) folder (all.files p.0 p.1)) first.refused

@@ -1,9 +1,14 @@
 -- The packages of an install beside those that a project reaches.
-use Rattle.std.specs.Prelude.{◌≡◌, ◌≢◌, ◌≤◌, ℕ, List, [], ◌∷◌, ◌++◌, length, Some}
+use Rattle.std.specs.Prelude.{◌≡◌, ◌≢◌, ◌≤◌, ℕ, List, [], ◌++◌, length, map, Some}
+use Rattle.std.specs.Cmp.Lexicographic.{slice_cmp}
 use Rattle.std.specs.List.{Contains}
-use Rattle.pn_text.specs.Path.{Path, path_text}
+use Rattle.std.specs.List.Sorted.{IsStrictlySortedBy}
+use Rattle.std.specs.Ordering.{nat_cmp}
+use Rattle.pn_text.specs.declared.limits.TheConstants.{PATH_LIMIT}
+use Rattle.pn_text.specs.Path.{Path, path_text, text_below}
 use Rattle.pn_fs.specs.Tree.{Tree, IsFile, file}
 use Rattle.pn_node.specs.Plan.{IsSoundFile}
+use Rattle.pn_manifest.specs.Exact.{Id}
 use Rattle.pn_manifest.specs.Pairs.{Pair, IsRising}
 use Rattle.pn_registry.specs.Below.{HasFew}
 use Rattle.pn_registry.specs.Files.{File, file_limit}
@@ -15,20 +20,19 @@ use Rattle.pn_layout.specs.Sound.{called, IsSoundPair}
 
 -- a package but for its files
 pub record Outline : Type 0 where
-  pub pair : Pair
+  pub id : Id
   pub dependencies : List Pair
   pub folder : Path
 
 abbrev pub outline : Package → Outline
-outline p = record { pair = called p; dependencies = p.dependencies; folder = p.folder }
+outline p = record { id = p.id; dependencies = p.dependencies; folder = p.folder }
 
 -- what becomes of a package that is reached: its folder is the registry's
 abbrev pub wanted : Found → Outline
-wanted q = record { pair = (q.id.name, q.id.version); dependencies = q.dependencies; folder = package_folder q.id }
+wanted q = record { id = q.id; dependencies = q.dependencies; folder = package_folder q.id }
 
--- `name@version`
-abbrev pub called_text : Package → List ℕ
-called_text p = p.name ++ 64 ∷ p.version
+abbrev pub package_id : Package → Id
+package_id p = p.id
 
 -- These are exactly the files below a folder. None is too long, and the folder has not too many entries.
 pub record AreFilesBelow (t : Tree) (folder : Path) (files : List Path) : Type 0 where
@@ -44,11 +48,16 @@ HasFiles t p = AreFilesBelow t p.folder p.files.items
 abbrev pub HaveFiles : Tree → List Package → Type 0
 HaveFiles t packages = (p : Package) → Contains packages p → HasFiles t p
 
--- Files of a package stand below its folder, none is above another, and each has a path in the registry.
+-- byte order of their texts, each once
+abbrev pub AreRising : List Path → Type 0
+AreRising files = IsStrictlySortedBy (slice_cmp nat_cmp) (map text_below files)
+
+-- Files of a package stand below its folder, in order, none is above another, and each has a path in the registry.
 pub record AreSoundFiles (folder : Path) (files : List Path) : Type 0 where
+  pub rising : AreRising files
   pub each : (f : Path) → Contains files f → IsSoundFile f
   pub apart : (s f : Path) → Contains files f → Contains files (s ++ f) → s ≡ []
-  pub short : (f : Path) → Contains files f → length (path_text (f ++ folder)) ≤ 4096
+  pub short : (f : Path) → Contains files f → length (path_text (f ++ folder)) ≤ PATH_LIMIT
 
 -- What a package keeps whatever the others are.
 pub record IsMade (p : Package) : Type 0 where
@@ -59,15 +68,13 @@ pub record IsMade (p : Package) : Type 0 where
 abbrev pub path_of : File → Path
 path_of f = f.0
 
--- below the folder, with a path in the registry
-pub record IsPlaced (folder : Path) (f : Path) : Type 0 where
-  pub below : f ≢ []
-  pub short : length (path_text (f ++ folder)) ≤ 4096
+-- below the folder
+abbrev pub IsBelow : Path → Type 0
+IsBelow f = f ≢ []
 
--- The package has the name, version and dependencies of the one that is reached.
+-- The package has the id and the dependencies of the one that is reached.
 pub record IsBare (q : Found) (p : Package) : Type 0 where
-  pub name : p.name ≡ q.id.name
-  pub version : p.version ≡ q.id.version
+  pub id : p.id ≡ q.id
   pub dependencies : p.dependencies ≡ q.dependencies
   pub pair : IsSoundPair (called p)
   pub rising : IsRising p.dependencies

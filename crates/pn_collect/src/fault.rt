@@ -1,16 +1,20 @@
 // Why the packages of an install aren't told.
 use pn_text::{AbsPath, Memory};
+use thiserror::Error;
 
 /// Why the packages of an install aren't told: the registry's path of a file with a part `node_modules`; a file of so
-/// many bytes, past 268,435,456; the registry's path of a file with so many bytes, past 4,096; more than 4,194,304
-/// entries below a package's folder; a failed call; no memory.
-#[derive(Drop)]
+/// many bytes, past 268,435,456; more than 4,194,304 entries below a package's folder; a failed call; no memory.
+#[derive(Debug, Drop, Error)]
 pub enum CollectFault {
+    #[error("{0} has a part node_modules")]
     Modules(AbsPath),
+    #[error("a file has {0} bytes")]
     TooLarge(u64),
-    LongPath(u64),
+    #[error("there are too many entries")]
     Entries,
+    #[error("a call failed")]
     Fault,
+    #[error("out of memory")]
     Memory,
 }
 

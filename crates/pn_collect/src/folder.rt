@@ -1,21 +1,20 @@
 // Where a package stands in the registry.
-ghost use Rattle.std.specs.Prelude.{◌≡◌, ◌≤◌, ◌++◌, IfOk, IsTrue, length};
-ghost use Rattle.pn_text.specs.Path.{path_text, text_below, is_path};
+ghost use Rattle.std.specs.Prelude.{◌≡◌, ◌≤◌, ◌++◌, IfOk, length};
+ghost use Rattle.pn_text.specs.declared.limits.TheConstants.{ID_LIMIT, PATH_LIMIT};
+ghost use Rattle.pn_text.specs.Path.{path_text};
 ghost use Rattle.pn_registry.specs.Places.{package_folder};
-ghost use Rattle.pn_choice.specs.Edges.{id_text};
 ghost use Rattle.pn_collect.specs.CollectFaults.{NamesModules};
 
 use crate::fault::CollectFault;
-use pn_manifest::ExactId;
-use pn_text::{AbsPath, Memory, PathFault, RelPath};
+use pn_text::{AbsPath, Memory, PathFault, PkgId, RelPath};
 use std::alloc::Global;
 
 /// The path of a package's folder. It isn't too long, since the package's id isn't.
-pub fn package_folder(alloc: Global, id: &ExactId) -> Result<AbsPath, Memory>
-    requires { length (id_text id.now) ≤ 120 }
+pub fn package_folder(alloc: Global, id: &PkgId) -> Result<AbsPath, Memory>
+    requires { length id.now ≤ ID_LIMIT }
     ensures { IfOk result (λ p. p ≡ package_folder id.now) }
 {
-    let _ = id.name().as_str();
+    let _ = id.as_str(); // a name and a version
     match pn_registry::package_folder(alloc, id) {
         Ok(Some(folder)) => Ok(folder),
         Ok(None) => unreachable!(),
@@ -23,36 +22,14 @@ pub fn package_folder(alloc: Global, id: &ExactId) -> Result<AbsPath, Memory>
     }
 }
 
-/// The length in bytes of the path of a file below a folder.
-pub fn joined_length(folder: &AbsPath, path: &RelPath) -> u64
-    ensures { result ≡ length (path_text (path.now ++ folder.now)) }
-{
-    let above = stem_length(folder);
-    let text = path.as_str();
-    above + text.len() as u64 + 1
-}
-
-// The length of what stands before an entry's slash.
-fn stem_length(folder: &AbsPath) -> u64
-    ensures length { result ≡ length (text_below folder.now) }
-    ensures good { IsTrue (is_path folder.now) }
-    ensures short { result ≤ 4096 }
-{
-    let text = folder.as_str();
-    if folder.is_root() {
-        0
-    } else {
-        text.len() as u64
-    }
-}
-
 /// The refusal of a file with a part `node_modules`.
 pub fn modules(alloc: Global, folder: &AbsPath, path: &RelPath) -> CollectFault
+    requires { length (path_text (path.now ++ folder.now)) ≤ PATH_LIMIT }
     ensures { NamesModules folder.now path.now result }
 {
     match folder.join(alloc, path) {
         Ok(path) => CollectFault::Modules(path),
         Err(PathFault::Memory) => CollectFault::Memory,
-        Err(_) => CollectFault::LongPath(joined_length(folder, path)),
+        Err(_) => unreachable!(),
     }
 }

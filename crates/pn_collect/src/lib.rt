@@ -6,6 +6,7 @@
 
 mod fault;
 mod folder;
+mod laws;
 mod package;
 mod packages;
 mod paths;
@@ -13,4 +14,5 @@ mod paths;
 mod tests;
 
 pub use fault::CollectFault;
-pub use packages::{collect, passed_law};
+pub use laws::{cause_law, passed_law, same_law};
+pub use packages::collect;

@@ -1,10 +1,11 @@
 // One package of an install.
 ghost use Rattle.std.specs.Prelude.{◌≡◌, ◌≤◌, length, IfOk, IfErr, IfSome, true};
-ghost use Rattle.pn_text.specs.Name.{is_name};
+ghost use Rattle.pn_text.specs.declared.limits.TheConstants.{ID_LIMIT};
+ghost use Rattle.pn_text.specs.Ids.{id_version, is_id};
 ghost use Rattle.pn_fs.specs.Seen.{Keeps};
+ghost use Rattle.pn_manifest.specs.Exact.{is_exact};
 ghost use Rattle.pn_manifest.specs.Pairs.{IsRising};
 ghost use Rattle.pn_registry.specs.Places.{package_folder};
-ghost use Rattle.pn_choice.specs.Edges.{id_text};
 ghost use Rattle.pn_choice.specs.Found.{HasFolder};
 ghost use Rattle.pn_collect.specs.CollectFaults.{CollectRefuses, NoFiles};
 ghost use Rattle.pn_collect.specs.Outline.{outline, wanted, HasFiles, AreSoundFiles, IsMade, AreFilesBelow, IsBare};
@@ -15,9 +16,9 @@ use crate::paths::paths;
 use pn_choice::Package as Found;
 use pn_fs::ReadFs;
 use pn_layout::Package;
-use pn_manifest::{Dependencies, ExactId};
+use pn_manifest::Dependencies;
 use pn_registry::{FilesFault, files};
-use pn_text::{AbsPath, Memory, PkgName, RelPath};
+use pn_text::{AbsPath, Memory, PkgId, RelPath};
 use std::alloc::Global;
 
 /// A package that is reached, with its folder in the registry and its files.
@@ -27,7 +28,8 @@ pub fn package<R: ReadFs>(
     found: &Found,
 ) -> Result<Package, CollectFault>
     requires stands { HasFolder (R.seen registry.old).tree found.now.id }
-    requires short { length (id_text found.now.id) ≤ 120 }
+    requires exact { is_exact (id_version found.now.id) ≡ true }
+    requires short { length found.now.id ≤ ID_LIMIT }
     ensures outline { IfOk result (λ p. outline p ≡ wanted found.now) }
     ensures made { IfOk result IsMade }
     ensures files { IfSome (R.seen registry.old).tree (λ t. IfOk result (HasFiles t)) }
@@ -50,7 +52,7 @@ pub fn package<R: ReadFs>(
 fn listed<R: ReadFs>(
     alloc: Global,
     registry: &mut R,
-    id: &ExactId,
+    id: &PkgId,
     folder: &AbsPath,
 ) -> Result<Vec<RelPath>, CollectFault>
     requires stands { HasFolder (R.seen registry.old).tree id.now }
@@ -61,7 +63,10 @@ fn listed<R: ReadFs>(
     ensures refused { IfErr result (CollectRefuses (λ r. NoFiles r id.now) (R.seen registry.old) (R.seen registry.new)) }
 {
     match files(alloc, registry, id) {
-        Ok(files) => paths(alloc, folder, &files),
+        Ok(files) => match paths(alloc, &files) {
+            Ok(paths) => Ok(paths),
+            Err(_) => Err(CollectFault::Memory),
+        },
         Err(FilesFault::Modules(path)) => Err(modules(alloc, folder, &path)),
         Err(FilesFault::TooLarge(_, length)) => Err(CollectFault::TooLarge(length)),
         Err(FilesFault::Entries) => Err(CollectFault::Entries),
@@ -76,18 +81,14 @@ fn put(
     folder: AbsPath,
     files: Vec<RelPath>,
 ) -> Result<Package, Memory>
+    requires { is_exact (id_version found.now.id) ≡ true }
     ensures bare { IfOk result (IsBare found.now) }
     ensures folder { IfOk result (λ p. p.folder ≡ folder) }
     ensures files { IfOk result (λ p. p.files.items ≡ files.items) }
 {
-    match (
-        name_of(alloc, &found.id),
-        found.id.version().copy(alloc),
-        dependencies_of(alloc, found),
-    ) {
-        (Ok(name), Ok(version), Ok(dependencies)) => Ok(Package {
-            name,
-            version,
+    match (id_of(alloc, found), dependencies_of(alloc, found)) {
+        (Ok(id), Ok(dependencies)) => Ok(Package {
+            id,
             dependencies,
             folder,
             files,
@@ -96,13 +97,12 @@ fn put(
     }
 }
 
-fn name_of(alloc: Global, id: &ExactId) -> Result<PkgName, Memory>
-    ensures same { IfOk result (λ n. n ≡ id.now.name) }
-    ensures named { is_name id.now.name ≡ true }
+fn id_of(alloc: Global, found: &Found) -> Result<PkgId, Memory>
+    ensures same { IfOk result (λ id. id ≡ found.now.id) }
+    ensures id { is_id found.now.id ≡ true }
 {
-    let name = id.name();
-    let _ = name.as_str();
-    name.copy(alloc)
+    let _ = found.id.as_str();
+    found.id.copy(alloc)
 }
 
 fn dependencies_of(alloc: Global, found: &Found) -> Result<Dependencies, Memory>

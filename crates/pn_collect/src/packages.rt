@@ -4,11 +4,10 @@ ghost use Rattle.std.specs.Cmp.Lexicographic.{slice_cmp};
 ghost use Rattle.std.specs.List.{All};
 ghost use Rattle.std.specs.Ordering.{nat_cmp};
 ghost use Rattle.pn_fs.specs.Seen.{Keeps};
-ghost use Rattle.pn_choice.specs.Edges.{edges_by, package_text};
+ghost use Rattle.pn_choice.specs.Edges.{edges_by, id_of};
 ghost use Rattle.pn_choice.specs.Found.{IsPackage};
 ghost use Rattle.pn_choice.specs.Walked.{IsReached};
 ghost use Rattle.pn_collect.specs.CollectFaults.{CollectRefuses, IsFirstRefused};
-ghost use Rattle.pn_collect.specs.Laws.{PassedLaw};
 ghost use Rattle.pn_collect.specs.Outline.{outline, wanted, HasFiles, IsMade};
 ghost use Rattle.pn_collect.specs.Packages.{ArePackages};
 
@@ -35,16 +34,11 @@ pub fn collect<R: ReadFs>(
     ensures refused { IfErr result (CollectRefuses (IsFirstRefused reached) (R.seen registry.old) (R.seen registry.new)) }
 {
     let _ = project.dependencies.as_slice();
-    match reached.by_id(alloc) {
+    match reached.by_id() {
         Ok(sorted) => packages(alloc, registry, sorted.as_slice()),
         Err(_) => Err(CollectFault::Memory),
     }
 }
-
-/// Where packages have their files, none of them is refused.
-pub fn passed_law()
-    ensures { PassedLaw }
-{}
 
 // The packages in the order given.
 fn packages<R: ReadFs>(
@@ -53,7 +47,7 @@ fn packages<R: ReadFs>(
     found: &[Found],
 ) -> Result<Vec<Package>, CollectFault>
     requires stand { All (IsPackage (R.seen registry.old).tree) found.now }
-    requires sorted { IsSorted (slice_cmp nat_cmp) (map package_text found.now) }
+    requires sorted { IsSorted (slice_cmp nat_cmp) (map id_of found.now) }
     ensures outlines { IfOk result (λ v. map outline v.items ≡ map wanted found.now) }
     ensures made { IfOk result (λ v. All IsMade v.items) }
     ensures files { IfSome (R.seen registry.old).tree (λ t. IfOk result (λ v. All (HasFiles t) v.items)) }

@@ -6,6 +6,7 @@ use Rattle.std.specs.Str.{is_utf8}
 use Rattle.std.specs.Cmp.Lexicographic.{slice_cmp}
 use Rattle.std.specs.Ordering.{nat_cmp}
 use Rattle.hex.specs.Hex.{encode_lower}
+use Rattle.pn_text.specs.declared.limits.TheConstants.{PATH_LIMIT}
 use Rattle.pn_text.specs.Path.{Path, text_below, SpellsParts}
 use Rattle.pn_digest.specs.Digests.{IsDigest}
 
@@ -33,7 +34,7 @@ has_feed text = list_any (λ b. b == 10) text
 -- A path below some folder, of at most 4,096 bytes of UTF-8.
 pub record IsRelPath (p : Path) : Type 0 where
   pub spelled : SpellsParts (rel_text p) p
-  pub short : length (rel_text p) ≤ 4096
+  pub short : length (rel_text p) ≤ PATH_LIMIT
   pub utf8 : is_utf8 (rel_text p) ≡ true
 
 -- Such a path without a line feed, and a digest.

@@ -36,3 +36,14 @@ impl Hasher512 {
         Digest::of(self.hasher.finalize())
     }
 }
+
+impl Digest {
+    /// The SHA-512 of bytes.
+    pub fn of_bytes(bytes: &[u8]) -> Digest
+        ensures { result ≡ sha512 bytes.now }
+    {
+        let mut hasher = Hasher512::new();
+        hasher.push(bytes);
+        hasher.end()
+    }
+}

@@ -5,7 +5,7 @@ ghost use Rattle.std.specs.Cmp.Lexicographic.{pointwise};
 ghost use Rattle.std.specs.Cmp.Rules.{comparing};
 ghost use Rattle.base64.specs.Engines.{standard};
 ghost use Rattle.base64.specs.GeneralPurpose.{encode_of};
-ghost use Rattle.pn_digest.specs.Digests.{IsDigest, integrity_text, IntegrityLaw};
+ghost use Rattle.pn_digest.specs.Digests.{IsDigest, integrity_text};
 
 use crate::digest::Digest;
 use base64::engine::general_purpose::STANDARD;
@@ -77,11 +77,6 @@ impl PartialEq for Integrity {
 impl Eq for Integrity {
     ghost laws = { Prim.search (comparing, rules) };
 }
-
-/// No two digests have the same integrity.
-pub fn integrity_law()
-    ensures { IntegrityLaw }
-{}
 
 // The digest whose base64 this is.
 fn decoded(text: &[u8]) -> Option<Digest>

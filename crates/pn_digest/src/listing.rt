@@ -1,14 +1,13 @@
 // Listings.
 ghost use Rattle.std.specs.Prelude.{◌≡◌, ◌++◌, ◌∷◌, [], IfOk, IfErr, OnOk, IsPermutation, length};
 ghost use Rattle.sha2.specs.Sha512.{sha512};
-ghost use Rattle.pn_digest.specs.Listing.{IsListing, ListingLaw, line_text, listing_text};
+ghost use Rattle.pn_digest.specs.Listing.{IsListing, line_text, listing_text};
 ghost use Rattle.pn_digest.specs.ListingFaults.{FilesRefused, BytesRefused};
 
 use crate::digest::Digest;
 use crate::fault::ListingFault;
 use crate::files::{first_bad, first_twice, in_order, is_rising, text_of};
 use crate::folders::folders;
-use crate::hasher::Hasher512;
 use crate::integrity::Integrity;
 use crate::lines::files_of;
 use pn_text::{Memory, RelPath};
@@ -80,9 +79,7 @@ impl Listing {
         ensures { IfOk result (λ integrity. integrity ≡ sha512 (listing_text self.now)) }
     {
         let text = self.print(alloc)?;
-        let mut hasher = Hasher512::new();
-        hasher.push(text.as_slice());
-        Ok(Integrity::of(hasher.end()))
+        Ok(Integrity::of(Digest::of_bytes(text.as_slice())))
     }
 
     /// The files in order.
@@ -100,11 +97,6 @@ impl Listing {
         self.files.len()
     }
 }
-
-/// No two listings have one text.
-pub fn listing_law()
-    ensures { ListingLaw }
-{}
 
 fn listed(files: Vec<(RelPath, Digest)>) -> Listing
     requires { IsListing files.items }

@@ -26,6 +26,7 @@ fn pieces_have_the_digest_of_the_whole(rt: HostRuntime) -> Result<(), Fail> {
     let nothing = digest_of(&[]);
     let abc = digest_of(&["abc"]);
     assert!(rt; nothing < abc && nothing.copy() == nothing);
+    assert!(rt; Digest::of_bytes(b"abc") == abc);
     Ok(())
 }
 

@@ -1,6 +1,6 @@
 -- Lemmas on the calls of a file system that tells its tree.
 use Rattle.std.proofs.Common.{◌≡◌, ◌≢◌, ℕ, List, [], ◌∷◌, refl, sym, ap, ◌∙◌, subst, true, false, Some, None, Ok, Err, inl, inr, get_or}
-use Rattle.std.specs.Prelude.{Option, Result, IfOk, OnOk, OnErr, if◌then◌else◌}
+use Rattle.std.specs.Prelude.{Option, Result, OnOk, OnErr, if◌then◌else◌}
 use Rattle.pn_text.specs.declared.fault.DevFault.{DevFault}
 use Rattle.pn_text.specs.Path.{Path, same_path}
 use Rattle.pn_text.proofs.Paths.{same_path-Decides}
@@ -12,6 +12,7 @@ use Rattle.pn_text.proofs.Paths.{and_left}
 use Rattle.pn_fs.specs.Calls.{Makes, Grows, IsListing, IsEntryName}
 use Rattle.pn_fs.specs.Nodes.{IsShortPath}
 use Rattle.pn_fs.proofs.Puts.{at_put, put_same, put_tree, put_own, put-put}
+pub use Rattle.pn_text.proofs.Results.{if_ok}
 
 -- below what is no folder stands nothing
 pub none_below : (t : Tree) → IsTree t → (p : Path) → (t p ≡ Some folder → ⊥) → (x : List ℕ) → t (x ∷ p) ≡ None
@@ -125,10 +126,6 @@ link_root t tree p h e = cc (h.1, tree.root, ap t e)
 
 pub file_held : (t : Tree) (p : Path) → IsFile t p → t p ≢ None
 file_held t p h e = cc (h.1, e)
-
-pub if_ok : {T E : Type 0} {P Q : T → Type 0} (r : Result T E) → ((v : T) → P v → Q v) → IfOk r P → IfOk r Q
-if_ok (Ok v) f h = f v h
-if_ok (Err e) f h = tt
 
 -- the names of a listing make the paths of entries
 pub entry_names : (t : Tree) (p : Path) (names : List (List ℕ)) → IsTree t → IsListing t p names → All (IsEntryName p) names

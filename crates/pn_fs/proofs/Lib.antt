@@ -2,3 +2,4 @@ pub mod Puts
 pub mod Kept
 pub mod NodeLemmas
 pub mod Listings
+pub mod SeenLemmas

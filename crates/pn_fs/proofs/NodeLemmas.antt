@@ -1,6 +1,6 @@
 -- Lemmas on the tree that nodes show.
-use Rattle.std.proofs.Common.{◌≡◌, ◌≢◌, ℕ, List, [], ◌∷◌, refl, sym, ap, ◌∙◌, subst, ◌≤◌, length, Bool, true, false, Some, None, Ok, Err}
-use Rattle.std.specs.Prelude.{Option, String, Result, OnOk, OnErr, IsTrue, if◌then◌else◌}
+use Rattle.std.proofs.Common.{◌≡◌, ◌≢◌, ℕ, List, [], ◌∷◌, refl, sym, ap, ◌∙◌, subst, ◌≤◌, length, Bool, true, false, Some, None}
+use Rattle.std.specs.Prelude.{Option, String, IsTrue, if◌then◌else◌}
 use Rattle.std.specs.Option.{option_map}
 use Rattle.std.specs.Map.{update}
 use Rattle.std.specs.Str.{bytes_eq}
@@ -16,6 +16,8 @@ use Rattle.pn_fs.specs.Bodies.{entry_of}
 use Rattle.pn_fs.specs.Nodes.{rooted, IsShortPath}
 use Rattle.pn_fs.specs.declared.body.Body.{Body}
 use Rattle.pn_fs.proofs.Puts.{put_own}
+use Rattle.pn_text.specs.declared.limits.TheConstants.{PATH_LIMIT}
+pub use Rattle.pn_text.proofs.Results.{on_ok, on_err}
 
 option_map-if : (b : Bool) (v w : Option Body) → option_map entry_of (if b then v else w) ≡ (if b then option_map entry_of v else option_map entry_of w)
 option_map-if true v w = refl
@@ -59,16 +61,8 @@ module _ {A : Type 0} where
         ] refl
 
 -- the path that a text spells
-pub short_path : (text : List ℕ) (p : Path) → SpellsAbs text p → length text ≤ 4096 → IsShortPath p
-short_path text p s short = (s.good, subst (λ t. length t ≤ 4096) s.spelled short)
-
-pub on_ok : {T E P Q : Type 0} (r : Result T E) → (P → Q) → OnOk r P → OnOk r Q
-on_ok (Ok v) f h = f h
-on_ok (Err e) f h = tt
-
-pub on_err : {T E P Q : Type 0} (r : Result T E) → (P → Q) → OnErr r P → OnErr r Q
-on_err (Ok v) f h = tt
-on_err (Err e) f h = f h
+pub short_path : (text : List ℕ) (p : Path) → SpellsAbs text p → length text ≤ PATH_LIMIT → IsShortPath p
+short_path text p s short = (s.good, subst (λ t. length t ≤ PATH_LIMIT) s.spelled short)
 
 -- a file stands at another path than `/`
 pub file_apart : {A : Type 0} (m : BTreeMap (String A) Body) (p : Path) → IsFile (rooted m) p → p ≢ []

@@ -1,6 +1,6 @@
 -- Lemmas on a tree with something else at a path.
-use Rattle.std.proofs.Common.{◌≡◌, ℕ, List, [], ◌∷◌, refl, sym, ap, ◌∙◌, subst, Bool, true, false, Some, None, Ok, Err, ◌⊎◌, inl, inr, arith, length}
-use Rattle.std.specs.Prelude.{Option, Result, OnErr, IfSome, if◌then◌else◌}
+use Rattle.std.proofs.Common.{◌≡◌, ℕ, List, [], ◌∷◌, refl, sym, ap, ◌∙◌, subst, Bool, true, false, Some, None, Ok, Err, ◌⊎◌, inl, inr, length}
+use Rattle.std.specs.Prelude.{Option, Result, OnErr, if◌then◌else◌}
 use Rattle.std.specs.Option.{ForSome}
 use Rattle.pn_text.specs.declared.fault.DevFault.{DevFault}
 use Rattle.pn_fs.specs.declared.kind.Kind.TheVariants.{Absent, Folder, File, Link}
@@ -10,9 +10,8 @@ use Rattle.pn_text.specs.Path.{Path, same_path}
 use Rattle.pn_text.proofs.Paths.{same_path-Decides}
 use Rattle.pn_fs.specs.Tree.{Entry, folder, file, link, Tree, IsTree, IsFile, put, grown, HasParent}
 use Rattle.pn_fs.specs.Nodes.{IsShortPath}
-
-pub same_path_refl : (p : Path) → same_path p p ≡ true
-same_path_refl p = (same_path-Decides p p).1 refl
+pub use Rattle.pn_text.proofs.Paths.{same_path_refl, deeper}
+pub use Rattle.pn_text.proofs.Results.{for_some, if_some}
 
 -- what is put is there
 pub put_same : (t : Tree) (p : Path) (e : Option Entry) → put t p e p ≡ e
@@ -28,10 +27,6 @@ at_put t p q e = elim (same_path p q) as (λ b. (b ≡ true → p ≡ q) → ((b
   | true ↦ λ one. inl (refl, one refl, refl)
   | false ↦ λ one. inr (refl, refl)
 ] (same_path-Decides p q).0
-
--- no path is its own parent
-pub deeper : (x : List ℕ) (p : Path) → x ∷ p ≡ p → ⊥
-deeper x p e = absurd (omega (arith, ap length e))
 
 -- An entry that is put keeps the tree one, where its path is one, the parent is a folder and nothing stands below it.
 pub put_tree : (t : Tree) (p : Path) (e : Option Entry) → IsTree t → ((f : Entry) → e ≡ Some f → IsShortPath p) → HasParent t p → ((x : List ℕ) → t (x ∷ p) ≡ None) → IsTree (put t p e)
@@ -113,14 +108,6 @@ told_at (Some t) p = t p
 pub made_is_file : (shown : Option Tree) (p : Path) (bytes : List ℕ) → ForSome (told_put shown p (file bytes)) (λ t. IsFile t p)
 made_is_file None p bytes t e = cc
 made_is_file (Some u) p bytes t e = (bytes, subst (λ o. told_at o p ≡ Some (file bytes)) e (put_same u p (Some (file bytes))))
-
-pub for_some : {T : Type 0} (P : T → Type 0) (o : Option T) → IfSome o P → ForSome o P
-for_some P None h t e = cc
-for_some P (Some u) h t e = let one : u ≡ t = cc in subst P one h
-
-pub if_some : {T : Type 0} (P : T → Type 0) (o : Option T) → ForSome o P → IfSome o P
-if_some P None h = tt
-if_some P (Some u) h = h u refl
 
 -- a tree that differs at some paths
 pub differs_none : (there : Path → Bool) (s : Option Tree) → DiffersOnly there s s

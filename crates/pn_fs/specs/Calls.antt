@@ -6,6 +6,7 @@ use Rattle.std.specs.Cmp.Lexicographic.{slice_cmp}
 use Rattle.std.specs.Ordering.{nat_cmp}
 use Rattle.std.specs.Option.{option_map}
 use Rattle.pn_text.specs.declared.fault.DevFault.{DevFault}
+use Rattle.pn_text.specs.declared.limits.TheConstants.{PATH_LIMIT}
 use Rattle.pn_fs.specs.declared.kind.Kind.{Kind}
 use Rattle.pn_fs.specs.declared.kind.Kind.TheVariants.{Absent, Folder, File, Link}
 use Rattle.pn_text.specs.Path.{Path, is_part, path_text}
@@ -27,7 +28,7 @@ pub record IsListing (t : Tree) (p : Path) (names : List (List ℕ)) : Type 0 wh
 -- A name that makes, with its folder, the path of an entry.
 pub record IsEntryName (p : Path) (x : List ℕ) : Type 0 where
   pub part : IsTrue (is_part x)
-  pub short : length (path_text (x ∷ p)) ≤ 4096
+  pub short : length (path_text (x ∷ p)) ≤ PATH_LIMIT
 
 abbrev pub told_put : Option Tree → Path → Entry → Option Tree
 told_put shown p e = option_map (λ t. put t p (Some e)) shown

@@ -9,8 +9,8 @@ bare [] = Some folder
 bare (x ∷ p) = None
 
 abbrev pub fresh : Seen
-fresh = record { tree = Some bare; touched = []; faults = 0 }
+fresh = record { tree = Some bare; touched = []; faults = 0; bytes = 0; names = 0 }
 
 -- what a sink shows before the first call
 abbrev pub untaken : Taken
-untaken = record { bytes = Some []; faults = 0 }
+untaken = record { bytes = Some []; calls = 0; faults = 0 }

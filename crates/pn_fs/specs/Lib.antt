@@ -8,5 +8,5 @@ pub mod Nodes
 pub mod Names
 pub mod Fresh
 pub mod Told
-pub mod Turns
+pub mod Scripts
 pub mod Made

@@ -6,6 +6,7 @@ use mathlib.Core.Sum.{⊎_set}
 use mathlib.Core.HLevel.{collapsible→set}
 use Rattle.std.proofs.Common.{sym, ap, ◌∙◌, refl, inl, inr}
 use Rattle.pn_text.specs.Path.{Path, same_path, is_path, path_text}
+use Rattle.pn_text.specs.declared.limits.TheConstants.{PATH_LIMIT}
 
 -- what may stand at a path: a folder, a file with these bytes, or a link with this text
 pub data Entry : Type 0 where
@@ -20,7 +21,7 @@ Tree = Path → Option Entry
 -- `/` is a folder, and so is the parent of each entry. An entry's path is in the grammar of paths.
 pub record IsTree (t : Tree) : Type 0 where
   pub root : t [] ≡ Some folder
-  pub paths : (p : Path) (e : Entry) → t p ≡ Some e → IsTrue (is_path p) × (length (path_text p) ≤ 4096)
+  pub paths : (p : Path) (e : Entry) → t p ≡ Some e → IsTrue (is_path p) × (length (path_text p) ≤ PATH_LIMIT)
   pub parents : (x : List ℕ) (p : Path) (e : Entry) → t (x ∷ p) ≡ Some e → t p ≡ Some folder
 
 -- All entries stand at the paths of a list.

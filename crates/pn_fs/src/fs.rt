@@ -4,7 +4,7 @@ ghost use Rattle.std.specs.Option.{ForSome};
 ghost use Rattle.std.specs.List.{All};
 ghost use Rattle.pn_text.specs.Causes.{HasCause};
 ghost use Rattle.pn_fs.specs.Tree.{Tree, IsTree, IsFinite, IsFile, IsLink, IsFree, CanCreate, CanRename, CanRemove, folder, file, link};
-ghost use Rattle.pn_fs.specs.Seen.{Seen, Keeps};
+ghost use Rattle.pn_fs.specs.Seen.{Seen, Keeps, GaveNothing, GaveBytes, GaveNames};
 ghost use Rattle.pn_fs.specs.Pieces.{IsPiece};
 ghost use Rattle.pn_fs.specs.Calls.{kind_of, IsListing, IsEntryName, told_put, told_gone, told_moved, Makes, Grows, Touches};
 
@@ -14,13 +14,15 @@ use pn_text::{AbsPath, DevFault, Text};
 /// A tree of folders, files and links that can be read. Where the tree is told, the answers are
 /// exact. A call answers `Failed` only where the count of faults rose in it.
 pub trait ReadFs {
-    /// The tree where it is told, the paths that were written, and the count of faults.
+    /// The tree where it is told, the paths that were written, and the counts of faults, and of the bytes and names that
+    /// were given.
     ghost seen: { Self → Seen };
 
     /// What stands at a path. It follows no link.
     fn kind(&mut self, path: &AbsPath) -> Result<Kind, DevFault>
         ensures kind { IfSome (seen self.old).tree (λ t. IfOk result (λ k. k ≡ kind_of (t path.now))) }
         ensures kept { Keeps (seen self.old) (seen self.new) }
+        ensures gave { IfSome (seen self.old).tree (λ t. GaveNothing (seen self.old) (seen self.new)) }
         ensures cause { HasCause (seen self.old).faults (seen self.new).faults result };
 
     /// The names of a folder's entries, in byte order.
@@ -29,6 +31,8 @@ pub trait ReadFs {
         ensures names { IfSome (seen self.old).tree (λ t. IfOk result (λ names. IsListing t path.now names.items)) }
         ensures good { IfOk result (λ names. All (IsEntryName path.now) names.items) }
         ensures kept { Keeps (seen self.old) (seen self.new) }
+        ensures gave { IfSome (seen self.old).tree (λ t. IfOk result (λ names. GaveNames (seen self.old) (length names.items) (seen self.new))) }
+        ensures gave_none { IfSome (seen self.old).tree (λ t. OnErr result (GaveNothing (seen self.old) (seen self.new))) }
         ensures cause { HasCause (seen self.old).faults (seen self.new).faults result };
 
     /// Bytes of a file from a place on: at most as many as there is room for, and none exactly at or
@@ -39,6 +43,8 @@ pub trait ReadFs {
         ensures within { IfOk result (λ n. n ≤ length into.old) }
         ensures piece { IfSome (seen self.old).tree (λ t. IfOk result (IsPiece (t path.now) at into.new)) }
         ensures kept { Keeps (seen self.old) (seen self.new) }
+        ensures gave { IfSome (seen self.old).tree (λ t. IfOk result (λ n. GaveBytes (seen self.old) n (seen self.new))) }
+        ensures gave_none { IfSome (seen self.old).tree (λ t. OnErr result (GaveNothing (seen self.old) (seen self.new))) }
         ensures cause { HasCause (seen self.old).faults (seen self.new).faults result };
 
     /// The text of a link.
@@ -46,6 +52,7 @@ pub trait ReadFs {
         requires { ForSome (seen self.old).tree (λ t. IsLink t path.now) }
         ensures text { IfSome (seen self.old).tree (λ t. IfOk result (λ text. t path.now ≡ Some (link text))) }
         ensures kept { Keeps (seen self.old) (seen self.new) }
+        ensures gave { IfSome (seen self.old).tree (λ t. GaveNothing (seen self.old) (seen self.new)) }
         ensures cause { HasCause (seen self.old).faults (seen self.new).faults result };
 
     /// What is told is a tree.
@@ -63,6 +70,7 @@ pub trait Fs: ReadFs {
         requires { ForSome (Self.seen self.old).tree (λ t. IsFree t path.now) }
         ensures made { Makes (Self.seen self.old).tree (told_put (Self.seen self.old).tree path.now folder) (Self.seen self.new).tree result }
         ensures touched { Touches (Self.seen self.old) (Self.seen self.new) (path.now ∷ []) result }
+        ensures gave { IfSome (Self.seen self.old).tree (λ t. GaveNothing (Self.seen self.old) (Self.seen self.new)) }
         ensures cause { HasCause (Self.seen self.old).faults (Self.seen self.new).faults result };
 
     /// Leaves an empty file where nothing or a file stands, in a folder.
@@ -70,6 +78,7 @@ pub trait Fs: ReadFs {
         requires { ForSome (Self.seen self.old).tree (λ t. CanCreate t path.now) }
         ensures made { Makes (Self.seen self.old).tree (told_put (Self.seen self.old).tree path.now (file [])) (Self.seen self.new).tree result }
         ensures touched { Touches (Self.seen self.old) (Self.seen self.new) (path.now ∷ []) result }
+        ensures gave { IfSome (Self.seen self.old).tree (λ t. GaveNothing (Self.seen self.old) (Self.seen self.new)) }
         ensures cause { HasCause (Self.seen self.old).faults (Self.seen self.new).faults result };
 
     /// Adds bytes to a file. After a refusal a prefix of them may have been added.
@@ -77,6 +86,7 @@ pub trait Fs: ReadFs {
         requires { ForSome (Self.seen self.old).tree (λ t. IsFile t path.now) }
         ensures grown { Grows (Self.seen self.old).tree path.now bytes.now (Self.seen self.new).tree result }
         ensures touched { Touches (Self.seen self.old) (Self.seen self.new) (path.now ∷ []) result }
+        ensures gave { IfSome (Self.seen self.old).tree (λ t. GaveNothing (Self.seen self.old) (Self.seen self.new)) }
         ensures cause { HasCause (Self.seen self.old).faults (Self.seen self.new).faults result };
 
     /// Makes a link with a text where nothing stands, in a folder.
@@ -84,6 +94,7 @@ pub trait Fs: ReadFs {
         requires { ForSome (Self.seen self.old).tree (λ t. IsFree t path.now) }
         ensures made { Makes (Self.seen self.old).tree (told_put (Self.seen self.old).tree path.now (link text.now)) (Self.seen self.new).tree result }
         ensures touched { Touches (Self.seen self.old) (Self.seen self.new) (path.now ∷ []) result }
+        ensures gave { IfSome (Self.seen self.old).tree (λ t. GaveNothing (Self.seen self.old) (Self.seen self.new)) }
         ensures cause { HasCause (Self.seen self.old).faults (Self.seen self.new).faults result };
 
     /// Moves a file to where nothing or a file stands, in a folder.
@@ -91,6 +102,7 @@ pub trait Fs: ReadFs {
         requires { ForSome (Self.seen self.old).tree (λ t. CanRename t from.now to.now) }
         ensures made { Makes (Self.seen self.old).tree (told_moved (Self.seen self.old).tree from.now to.now) (Self.seen self.new).tree result }
         ensures touched { Touches (Self.seen self.old) (Self.seen self.new) (from.now ∷ to.now ∷ []) result }
+        ensures gave { IfSome (Self.seen self.old).tree (λ t. GaveNothing (Self.seen self.old) (Self.seen self.new)) }
         ensures cause { HasCause (Self.seen self.old).faults (Self.seen self.new).faults result };
 
     /// Takes a file, a link or an empty folder other than `/` away.
@@ -98,5 +110,6 @@ pub trait Fs: ReadFs {
         requires { ForSome (Self.seen self.old).tree (λ t. CanRemove t path.now) }
         ensures made { Makes (Self.seen self.old).tree (told_gone (Self.seen self.old).tree path.now) (Self.seen self.new).tree result }
         ensures touched { Touches (Self.seen self.old) (Self.seen self.new) (path.now ∷ []) result }
+        ensures gave { IfSome (Self.seen self.old).tree (λ t. GaveNothing (Self.seen self.old) (Self.seen self.new)) }
         ensures cause { HasCause (Self.seen self.old).faults (Self.seen self.new).faults result };
 }

@@ -13,7 +13,6 @@ mod piece;
 mod sink;
 mod sure;
 mod suresink;
-mod turns;
 
 pub use body::Body;
 pub use fs::{Fs, ReadFs};

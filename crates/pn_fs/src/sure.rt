@@ -22,6 +22,8 @@ pub struct SureFs {
     alloc: Global,
     nodes: BTreeMap<String, Body>,
     touched: Vec<AbsPath>,
+    bytes: u64,
+    names: u64,
     ghost tree: { IsTree (rooted nodes) } by { IsTree-prop (rooted nodes) },
 }
 
@@ -34,12 +36,14 @@ impl SureFs {
             alloc,
             nodes: BTreeMap::new(alloc),
             touched: Vec::new(alloc),
+            bytes: 0,
+            names: 0,
         }
     }
 }
 
 impl ReadFs for SureFs {
-    ghost seen = { λ s. record { tree = Some (rooted s.nodes); touched = s.touched.items; faults = 0 } };
+    ghost seen = { λ s. record { tree = Some (rooted s.nodes); touched = s.touched.items; faults = 0; bytes = s.bytes; names = s.names } };
 
     ghost well_formed = { λ s t told. told_tree (rooted s.nodes) t s.tree told };
 
@@ -50,11 +54,15 @@ impl ReadFs for SureFs {
     }
 
     fn list(&mut self, path: &AbsPath) -> Result<Vec<Text>, DevFault> {
-        list_at(self.alloc, &self.nodes, path)
+        let names = list_at(self.alloc, &self.nodes, path)?;
+        self.names = self.names.saturating_add(names.len() as u64);
+        Ok(names)
     }
 
     fn read_piece(&mut self, path: &AbsPath, at: u64, into: &mut [u8]) -> Result<usize, DevFault> {
-        Ok(piece_at(&self.nodes, path, at, into))
+        let count = piece_at(&self.nodes, path, at, into);
+        self.bytes = self.bytes.saturating_add(count as u64);
+        Ok(count)
     }
 
     fn read_link(&mut self, path: &AbsPath) -> Result<Text, DevFault> {

@@ -11,6 +11,7 @@ use std::alloc::Global;
 #[derive(Drop)]
 pub struct SureSink {
     bytes: Vec<u8>,
+    calls: u64,
 }
 
 impl SureSink {
@@ -19,6 +20,7 @@ impl SureSink {
     {
         SureSink {
             bytes: Vec::new(alloc),
+            calls: 0,
         }
     }
 
@@ -31,9 +33,10 @@ impl SureSink {
 }
 
 impl Sink for SureSink {
-    ghost seen = { λ s. record { bytes = Some s.bytes.items; faults = 0 } };
+    ghost seen = { λ s. record { bytes = Some s.bytes.items; calls = s.calls; faults = 0 } };
 
     fn write(&mut self, bytes: &[u8]) -> Result<(), DevFault> {
+        self.calls = self.calls.saturating_add(1);
         self.bytes.extend_from_slice(bytes)?;
         Ok(())
     }

@@ -3,17 +3,17 @@ use Rattle.std.proofs.Common.{◌≡◌, ◌≤◌, ◌<◌, ◌+◌, ◌-◌, �
 use Rattle.std.specs.Prelude.{◌==◌}
 use Rattle.std.specs.List.{list_all}
 use Rattle.std.specs.Result.{IsErrAnd}
-use Rattle.std.proofs.lemmas.Bool.{eqb-true}
+use Rattle.std.proofs.lemmas.Bool.{and_from, and_parts, eqb-true, or_cases}
 use Rattle.pn_glob.specs.Bytes.{is_bracket}
 use Rattle.pn_glob.specs.Grammar.{Chosen, Spells, each_with, ends_choice, is_inner, is_plain, one, more, empty, plain, brace, outside, inside}
 use Rattle.pn_glob.specs.Reading.{BadInner, ChoiceAt, FrontOf, Grown, NoChoice, Opened, OpenedAt, SpelledAt, Stops, StopsIn, starts_with, first, comma}
 use Rattle.pn_glob.specs.declared.fault.Stop.{Stop}
 use Rattle.pn_glob.specs.declared.fault.Stop.TheVariants as stop
-use Rattle.pn_glob.proofs.Gaps.{and_both, and_left, and_right, eq-false, or_cases}
+use Rattle.pn_glob.proofs.Gaps.{eq-false}
 
 pub front-more : (test : ℕ → Bool) (x : List ℕ) (b : ℕ) → list_all test x ≡ true → test b ≡ true → list_all test (x ++ b ∷ []) ≡ true
-front-more test [] b f h = and_both (test b) true h refl
-front-more test (a ∷ x) b f h = and_both (test a) _ (and_left (test a) _ f) (front-more test x b (and_right (test a) _ f) h)
+front-more test [] b f h = and_from (test b) true h refl
+front-more test (a ∷ x) b f h = and_from (test a) _ (and_parts (test a) _ f).0 (front-more test x b (and_parts (test a) _ f).1 h)
 
 take-front : (x rest : List ℕ) → take (length x) (x ++ rest) ≡ x
 take-front [] rest = refl

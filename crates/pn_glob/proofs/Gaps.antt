@@ -1,34 +1,10 @@
 -- Gaps and what is tried behind them.
 use Rattle.std.proofs.Common.{◌≡◌, ℕ, Bool, true, false, List, [], ◌∷◌, refl, sym, ap, subst, ◌∙◌, inl, inr, arith}
 use Rattle.std.specs.Prelude.{◌==◌, ◌&&◌, ◌||◌, ◌⊎◌, if◌then◌else◌}
-use Rattle.std.proofs.lemmas.Bool.{cases_Bool, eqb-true}
+use Rattle.std.proofs.lemmas.Bool.{and_from, and_parts, cases_Bool, eqb-true, or_cases, or_left, or_right}
 use Rattle.std.proofs.lemmas.Bool.Decides.{nat_tests}
 use Rattle.pn_glob.specs.Gaps.{Rules, any_later, any_rest, first_and, is_end, matches}
-use Rattle.pn_glob.specs.Steps.{at_gap}
-
-pub and_left : (a b : Bool) → (a && b) ≡ true → a ≡ true
-and_left true b h = refl
-and_left false b h = cc h
-
-pub and_right : (a b : Bool) → (a && b) ≡ true → b ≡ true
-and_right true b h = h
-and_right false b h = cc h
-
-pub and_both : (a b : Bool) → a ≡ true → b ≡ true → (a && b) ≡ true
-and_both true b g h = h
-and_both false b g h = cc g
-
-pub or_cases : (a b : Bool) → (a || b) ≡ true → (a ≡ true) ⊎ (b ≡ true)
-or_cases true b h = inl refl
-or_cases false b h = inr h
-
-pub or_left : (a b : Bool) → a ≡ true → (a || b) ≡ true
-or_left true b h = refl
-or_left false b h = cc h
-
-pub or_right : (a b : Bool) → b ≡ true → (a || b) ≡ true
-or_right true b h = refl
-or_right false b h = h
+use Rattle.pn_glob.specs.WhatIsLeft.{at_gap}
 
 pub or_false : (a b : Bool) → a ≡ false → (a || b) ≡ b
 or_false true b h = cc h
@@ -52,8 +28,8 @@ pub rest-step : {A : Type 0} (skip : A → Bool) (f g : List A → Bool) → ((t
 rest-step skip f g lead [] h = lead [] h
 rest-step skip f g lead (a ∷ t) h = elim (or_cases (f (a ∷ t)) (skip a && any_rest skip f t) h) [
   | inl this ↦ lead (a ∷ t) this
-  | inr later ↦ and_both (skip a) (any_rest skip g t) (and_left (skip a) _ later)
-      (rest-later skip g t (rest-step skip f g lead t (and_right (skip a) _ later)))
+  | inr later ↦ and_from (skip a) (any_rest skip g t) (and_parts (skip a) _ later).0
+      (rest-later skip g t (rest-step skip f g lead t (and_parts (skip a) _ later).1))
 ]
 
 -- two gaps are one
@@ -61,7 +37,7 @@ pub rest-join : {A : Type 0} (skip : A → Bool) (g : List A → Bool) (t : List
 rest-join skip g [] h = h
 rest-join skip g (a ∷ t) h = elim (or_cases (any_rest skip g (a ∷ t)) (skip a && any_rest skip (any_rest skip g) t) h) [
   | inl this ↦ this
-  | inr later ↦ or_right (g (a ∷ t)) _ (and_both (skip a) (any_rest skip g t) (and_left (skip a) _ later) (rest-join skip g t (and_right (skip a) _ later)))
+  | inr later ↦ or_right (g (a ∷ t)) _ (and_from (skip a) (any_rest skip g t) (and_parts (skip a) _ later).0 (rest-join skip g t (and_parts (skip a) _ later).1))
 ]
 
 -- a test that the gap's items pass alike
@@ -96,12 +72,12 @@ first-later : {C A : Type 0} (r : Rules C A) (c : C) (p : List C) → ((b : A) �
 first-later r c p steady g [] h = cc (sym (piece-is r c p g []) ∙ h)
 first-later r c p steady g (b ∷ t) h =
     let both = sym (piece-is r c p g (b ∷ t)) ∙ h in
-    and_both (r.may_skip b) _ (steady b (and_left (r.fits c b) (matches r p t) both)) (rest-here r.may_skip (matches r p) t (and_right (r.fits c b) (matches r p t) both))
+    and_from (r.may_skip b) _ (steady b (and_parts (r.fits c b) (matches r p t) both).0) (rest-here r.may_skip (matches r p) t (and_parts (r.fits c b) (matches r p t) both).1)
 
 pub later-step : {C A : Type 0} (r : Rules C A) → Steady r → (c : C) (p : List C) (a : A) (t : List A) → r.is_gap c ≡ false → r.fits c a ≡ true
     → any_later r.may_skip (matches r (c ∷ p)) (a ∷ t) ≡ true → any_later r.may_skip (matches r p) t ≡ true
 later-step r steady c p a t g f h = rest-step r.may_skip (matches r (c ∷ p)) (matches r p)
-    (first-later r c p (λ b. steady c a b g f (and_left (r.may_skip a) _ h)) g) t (and_right (r.may_skip a) _ h)
+    (first-later r c p (λ b. steady c a b g f (and_parts (r.may_skip a) _ h).0) g) t (and_parts (r.may_skip a) _ h).1
 
 -- what is found later is found at once where a gap comes next
 pub later-gap : {C A : Type 0} (r : Rules C A) (c : C) (p : List C) (t : List A) → r.is_gap c ≡ true

@@ -1,8 +1,8 @@
 -- What is taken off the ends of patterns, and lists of them.
 use Rattle.std.proofs.Common.{◌≡◌, ◌+◌, ◌-◌, ℕ, Bool, true, false, List, [], ◌∷◌, ◌++◌, length, map, Vec, Global, refl, sym, ap, subst, ◌∙◌, inl, inr, arith, append_assoc, append-nil, length-append}
-use Rattle.std.specs.Prelude.{◌==◌, ◌&&◌, ◌||◌, not, if◌then◌else◌}
+use Rattle.std.specs.Prelude.{◌==◌, ◌&&◌, ◌||◌, if◌then◌else◌}
 use Rattle.std.specs.List.{list_all, list_any}
-use Rattle.std.proofs.lemmas.Bool.{cases_Bool}
+use Rattle.std.proofs.lemmas.Bool.{and_right, cases_Bool, not-false}
 use Rattle.pn_glob.specs.declared.fault.Bad.{Bad}
 use Rattle.pn_glob.specs.declared.fault.Bad.TheVariants as bad
 use Rattle.pn_glob.specs.declared.fault.Stop.TheVariants as stop
@@ -11,7 +11,7 @@ use Rattle.pn_glob.specs.declared.kind.Kind.TheVariants.{Paths, Names}
 use Rattle.pn_glob.specs.Bytes.{is_bracket}
 use Rattle.pn_glob.specs.Grammar.{HasBadByte, HasMany, IsOpen, Spells, is_plain}
 use Rattle.pn_glob.specs.Lists.{HasBracket, IsName, Met, ReadAll, Reads, Refused, before_slash, behind_bang, behind_dot, is_negative, or_star, tail_of, none, positive, negative}
-use Rattle.pn_glob.specs.ListSteps.{Added, IsBad, ReadBefore, fault_of}
+use Rattle.pn_glob.specs.ReadLists.{Added, IsBad, ReadBefore, fault_of}
 use Rattle.pn_glob.specs.Reading.{FrontOf, Stops, starts_with}
 use Rattle.pn_glob.specs.Matching.{fits}
 use Rattle.pn_glob.proofs.Braces.{items_of}
@@ -32,13 +32,9 @@ dot-none [] h = refl
 dot-none (b ∷ []) h = refl
 dot-none (b ∷ c ∷ t) h = sym (ap (λ z. if z && (c == 47) then t else b ∷ c ∷ t) h)
 
-and-false : (a : Bool) → (a && false) ≡ false
-and-false true = refl
-and-false false = refl
-
 no-slash : (b : ℕ) (rest : List ℕ) → starts_with (λ b. b == 47) rest ≡ false → b ∷ rest ≡ behind_dot (b ∷ rest)
 no-slash b [] h = refl
-no-slash b (c ∷ t) h = sym (ap (λ z. if (b == 46) && z then t else b ∷ c ∷ t) h ∙ ap (λ z. if z then t else b ∷ c ∷ t) (and-false (b == 46)))
+no-slash b (c ∷ t) h = sym (ap (λ z. if (b == 46) && z then t else b ∷ c ∷ t) h ∙ ap (λ z. if z then t else b ∷ c ∷ t) (and_right (b == 46) false refl))
 
 pub dot-other : (text rest : List ℕ) → text ≡ 46 ∷ rest → starts_with (λ b. b == 47) rest ≡ false → text ≡ behind_dot text
 dot-other text rest h g = h ∙ no-slash 46 rest g ∙ sym (ap behind_dot h)
@@ -85,10 +81,6 @@ path-reads text tail body cs t b h = subst (λ (y : List ℕ). Spells y cs) (b �
 
 pub tail-is : (text bang tail : List ℕ) → bang ≡ behind_bang text → tail ≡ behind_dot bang → tail ≡ tail_of Paths text
 tail-is text bang tail b t = t ∙ ap behind_dot b
-
-not-false : (b : Bool) → not b ≡ false → b ≡ true
-not-false true h = refl
-not-false false h = cc h
 
 pub bracket-bad : (text body rest : List ℕ) (b : ℕ) (behind : List ℕ) → body ≡ behind_bang text → FrontOf is_plain body rest → rest ≡ b ∷ behind
     → IsBad Names text (bad.At (length text - length body + (length body - length rest)))

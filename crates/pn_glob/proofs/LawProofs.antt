@@ -2,13 +2,15 @@
 use Rattle.std.proofs.Common.{◌≡◌, ℕ, Bool, true, false, List, [], ◌∷◌, ◌++◌, refl, sym, ap, subst, ◌∙◌, inl, inr}
 use Rattle.std.specs.Prelude.{◌==◌, ◌&&◌, ◌||◌, not, if◌then◌else◌}
 use Rattle.std.specs.List.{list_all, list_any}
-use Rattle.std.proofs.lemmas.Bool.{cases_Bool, eqb-true}
+use Rattle.std.proofs.lemmas.Bool.{and_from, and_parts, cases_Bool, eqb-true, not-true, or_cases, or_right}
+use Rattle.std.proofs.lemmas.List.Folds.{list_any-append}
+use Rattle.std.proofs.Math.Bool.{and-true, or-false}
 use Rattle.pn_glob.specs.declared.kind.Kind.TheVariants.{Paths, Names}
 use Rattle.pn_glob.specs.Bytes.{is_hidden, is_star, onto, parts}
 use Rattle.pn_glob.specs.Gaps.{Matches, Rules, any_rest, first_and, is_end, matches, end, gap, piece}
 use Rattle.pn_glob.specs.Laws.{LiteralLaw, MatchingLaw, NegativeLaw, StarLaw}
 use Rattle.pn_glob.specs.Matching.{byte_rules, fits, part_fits, part_rules}
-use Rattle.pn_glob.proofs.Gaps.{and_both, and_left, and_right, eq-true, gap-is, or_cases, or_right, piece-is, piece-step, rest-here}
+use Rattle.pn_glob.proofs.Gaps.{eq-true, gap-is, piece-is, piece-step, rest-here}
 
 -- a run that a gap skips
 record Run {A : Type 0} (skip : A → Bool) (test : List A → Bool) (t : List A) : Type 0 where
@@ -23,19 +25,19 @@ found-run skip test [] h = record { run = []; rest = []; split = refl; skipped =
 found-run skip test (a ∷ t) h = elim (or_cases (test (a ∷ t)) (skip a && any_rest skip test t) h) [
   | inl this ↦ record { run = []; rest = a ∷ t; split = refl; skipped = refl; holds = this }
   | inr later ↦
-      let r = found-run skip test t (and_right (skip a) _ later) in
-      record { run = a ∷ r.run; rest = r.rest; split = ap (λ y. a ∷ y) r.split; skipped = and_both (skip a) _ (and_left (skip a) _ later) r.skipped; holds = r.holds }
+      let r = found-run skip test t (and_parts (skip a) _ later).1 in
+      record { run = a ∷ r.run; rest = r.rest; split = ap (λ y. a ∷ y) r.split; skipped = and_from (skip a) _ (and_parts (skip a) _ later).0 r.skipped; holds = r.holds }
 ]
 
 run-found : {A : Type 0} (skip : A → Bool) (test : List A → Bool) (run t : List A) → list_all skip run ≡ true → test t ≡ true → any_rest skip test (run ++ t) ≡ true
 run-found skip test [] t s h = rest-here skip test t h
 run-found skip test (a ∷ run) t s h = or_right (test (a ∷ (run ++ t))) _
-    (and_both (skip a) _ (and_left (skip a) _ s) (run-found skip test run t (and_right (skip a) _ s) h))
+    (and_from (skip a) _ (and_parts (skip a) _ s).0 (run-found skip test run t (and_parts (skip a) _ s).1 h))
 
 sound-piece : {C A : Type 0} (r : Rules C A) (c : C) (p : List C) (t : List A) → ((s : List A) → matches r p s ≡ true → Matches r p s) → r.is_gap c ≡ false
     → first_and (r.fits c) (matches r p) t ≡ true → Matches r (c ∷ p) t
 sound-piece r c p [] below g h = cc h
-sound-piece r c p (a ∷ t) below g h = piece c p a t g (and_left (r.fits c a) _ h) (below t (and_right (r.fits c a) _ h))
+sound-piece r c p (a ∷ t) below g h = piece c p a t g (and_parts (r.fits c a) _ h).0 (below t (and_parts (r.fits c a) _ h).1)
 
 sound-gap : {C A : Type 0} (r : Rules C A) (c : C) (p : List C) (t : List A) → ((s : List A) → matches r p s ≡ true → Matches r p s) → r.is_gap c ≡ true
     → any_rest r.may_skip (matches r p) t ≡ true → Matches r (c ∷ p) t
@@ -62,23 +64,19 @@ matching = record {
   paths = λ p t. (sound part_rules (parts p) (parts t), complete part_rules (parts p) (parts t));
 }
 
-not-true : (b : Bool) → not b ≡ true → b ≡ false
-not-true true h = cc h
-not-true false h = refl
-
 literal-same : (p t : List ℕ) → list_all (λ b. not (is_star b)) p ≡ true → matches (byte_rules Names) p t ≡ true → p ≡ t
 literal-same [] [] l h = refl
 literal-same [] (b ∷ t) l h = cc h
-literal-same (c ∷ p) [] l h = cc (sym (piece-is (byte_rules Names) c p (not-true (is_star c) (and_left (not (is_star c)) _ l)) []) ∙ h)
+literal-same (c ∷ p) [] l h = cc (sym (piece-is (byte_rules Names) c p (not-true (is_star c) (and_parts (not (is_star c)) _ l).0) []) ∙ h)
 literal-same (c ∷ p) (b ∷ t) l h =
-    let both = sym (piece-is (byte_rules Names) c p (not-true (is_star c) (and_left (not (is_star c)) _ l)) (b ∷ t)) ∙ h in
-    ap (λ z. z ∷ p) (eqb-true c b (and_left (c == b) (matches (byte_rules Names) p t) both))
-    ∙ ap (λ (y : List ℕ). b ∷ y) (literal-same p t (and_right (not (is_star c)) _ l) (and_right (c == b) (matches (byte_rules Names) p t) both))
+    let both = sym (piece-is (byte_rules Names) c p (not-true (is_star c) (and_parts (not (is_star c)) _ l).0) (b ∷ t)) ∙ h in
+    ap (λ z. z ∷ p) (eqb-true c b (and_parts (c == b) (matches (byte_rules Names) p t) both).0)
+    ∙ ap (λ (y : List ℕ). b ∷ y) (literal-same p t (and_parts (not (is_star c)) _ l).1 (and_parts (c == b) (matches (byte_rules Names) p t) both).1)
 
 literal-self : (p : List ℕ) → list_all (λ b. not (is_star b)) p ≡ true → matches (byte_rules Names) p p ≡ true
 literal-self [] l = refl
-literal-self (c ∷ p) l = piece-step (byte_rules Names) c p c p (not-true (is_star c) (and_left (not (is_star c)) _ l)) (eq-true c c refl)
-    ∙ literal-self p (and_right (not (is_star c)) _ l)
+literal-self (c ∷ p) l = piece-step (byte_rules Names) c p c p (not-true (is_star c) (and_parts (not (is_star c)) _ l).0) (eq-true c c refl)
+    ∙ literal-self p (and_parts (not (is_star c)) _ l).1
 
 pub literal : LiteralLaw
 literal p t l = (literal-same p t l, λ e. subst (λ (y : List ℕ). fits Names p y ≡ true) e (literal-self p l))
@@ -87,21 +85,8 @@ star-any : (t : List ℕ) → any_rest (λ b. true) (λ (y : List ℕ). is_end y
 star-any [] = refl
 star-any (b ∷ t) = star-any t
 
-or-assoc : (x y z : Bool) → ((x || y) || z) ≡ (x || (y || z))
-or-assoc true y z = refl
-or-assoc false y z = refl
-
-or-false : (x : Bool) → x ≡ (x || false)
-or-false true = refl
-or-false false = refl
-
-and-true : (x : Bool) → (x && true) ≡ x
-and-true true = refl
-and-true false = refl
-
 any-more : (f : List ℕ → Bool) (ns : List (List ℕ)) (n : List ℕ) → list_any f (ns ++ n ∷ []) ≡ (list_any f ns || f n)
-any-more f [] n = sym (or-false (f n))
-any-more f (m ∷ ns) n = ap (λ z. f m || z) (any-more f ns n) ∙ sym (or-assoc (f m) (list_any f ns) (f n))
+any-more f ns n = list_any-append f ns (n ∷ []) ∙ ap (λ z. list_any f ns || z) (or-false (f n))
 
 taken-away : (a b c : Bool) → (a && not (b || c)) ≡ ((a && not b) && not c)
 taken-away false b c = refl
@@ -143,8 +128,8 @@ star-part y = ap (λ z. not (is_hidden y) && z) (star-any y) ∙ and-true (not (
 
 star-parts : (ys : List (List ℕ)) → first_and (part_fits (42 ∷ [])) (λ (z : List (List ℕ)). is_end z) ys ≡ true → (y : List ℕ) × (ys ≡ y ∷ []) × (is_hidden y ≡ false)
 star-parts [] h = cc h
-star-parts (y ∷ []) h = (y, refl, not-true (is_hidden y) (sym (star-part y) ∙ and_left (part_fits (42 ∷ []) y) true h))
-star-parts (y ∷ z ∷ ys) h = cc (and_right (part_fits (42 ∷ []) y) false h)
+star-parts (y ∷ []) h = (y, refl, not-true (is_hidden y) (sym (star-part y) ∙ (and_parts (part_fits (42 ∷ []) y) true h).0))
+star-parts (y ∷ z ∷ ys) h = cc (and_parts (part_fits (42 ∷ []) y) false h).1
 
 star-only : (t : List ℕ) → fits Paths (42 ∷ []) t ≡ true → (parts t ≡ t ∷ []) × (is_hidden t ≡ false)
 star-only t h =

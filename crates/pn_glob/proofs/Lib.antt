@@ -1,7 +1,7 @@
 pub mod Gaps
-pub mod PartSteps
+pub mod PartsLemmas
 pub mod Braces
 pub mod Heads
 pub mod LawProofs
-pub mod Turns
+pub mod LeftToRight
 pub mod Settled

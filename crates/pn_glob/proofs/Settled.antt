@@ -2,6 +2,7 @@
 use Rattle.std.proofs.Common.{◌≡◌, ◌+◌, ◌-◌, ℕ, Bool, true, false, List, [], ◌∷◌, ◌++◌, length, refl, sym, ap, ◌∙◌, inl, inr, arith, append_assoc, append-nil, length-append, add-one}
 use Rattle.std.specs.Prelude.{◌≢◌, ◌&&◌, not, if◌then◌else◌}
 use Rattle.std.specs.List.{list_all}
+use Rattle.std.proofs.lemmas.Bool.{and_parts}
 use Rattle.pn_glob.specs.declared.fault.Bad.{Bad}
 use Rattle.pn_glob.specs.declared.fault.Bad.TheVariants as bad
 use Rattle.pn_glob.specs.declared.fault.GlobFault.{GlobFault}
@@ -12,10 +13,9 @@ use Rattle.pn_glob.specs.Bytes.{is_bracket}
 use Rattle.pn_glob.specs.Grammar.{HasBadByte, is_plain}
 use Rattle.pn_glob.specs.Laws.{SettledLaw}
 use Rattle.pn_glob.specs.Lists.{HasBracket, IsBadAt, IsLarge, Met, ReadAll, Reads, Refused, before_slash, is_negative, moved, or_star, tail_of, none, positive, negative}
-use Rattle.pn_glob.specs.ListSteps.{fault_of}
+use Rattle.pn_glob.specs.ReadLists.{fault_of}
 use Rattle.pn_glob.specs.Matching.{Patterns}
-use Rattle.pn_glob.proofs.Gaps.{and_left, and_right}
-use Rattle.pn_glob.proofs.Turns.{Turn, out, within, stopped, many, start, turned, bad-turned, many-turned, open-turned, spells-turned}
+use Rattle.pn_glob.proofs.LeftToRight.{Turn, out, within, stopped, many, start, turned, bad-turned, many-turned, open-turned, spells-turned}
 
 -- what a pattern is read as, or why it isn't
 data Reading : Type 0 where
@@ -57,8 +57,8 @@ bracket-front : (front : List ℕ) (b : ℕ) (after : List ℕ) → list_all is_
 bracket-front [] b after p h =
     (ap (λ v. not v && list_all is_plain after) h, ap (λ v. if not v then plain_front after + 1 else 0) h)
 bracket-front (a ∷ front) b after p h =
-    let q = and_left (is_plain a) (list_all is_plain front) p in
-    let r = bracket-front front b after (and_right (is_plain a) (list_all is_plain front) p) h in
+    let q = (and_parts (is_plain a) (list_all is_plain front) p).0 in
+    let r = bracket-front front b after (and_parts (is_plain a) (list_all is_plain front) p).1 h in
     (ap (λ v. v && list_all is_plain (front ++ b ∷ after)) q ∙ r.0, ap (λ v. if v then plain_front (front ++ b ∷ after) + 1 else 0) q ∙ ap (λ n. n + 1) r.1 ∙ add-one (length front))
 
 bracket-reading : (text body : List ℕ) (at : ℕ) → HasBracket body at → name_reading text body ≡ wrong (bad.At (moved Names text at))

@@ -4,6 +4,6 @@ pub mod Matching
 pub mod Laws
 pub mod Grammar
 pub mod Lists
-pub mod ListSteps
-pub mod Steps
+pub mod ReadLists
+pub mod WhatIsLeft
 pub mod Reading

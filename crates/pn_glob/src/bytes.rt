@@ -2,7 +2,7 @@
 ghost use Rattle.std.specs.Prelude.{◌≡◌, ◌≤◌, [], ◌∷◌, length, MatchOption, IfSome, true, false};
 ghost use Rattle.pn_glob.specs.Gaps.{any_later, any_rest, matches};
 ghost use Rattle.pn_glob.specs.Matching.{byte_rules, stands_for};
-ghost use Rattle.pn_glob.specs.Steps.{at_gap};
+ghost use Rattle.pn_glob.specs.WhatIsLeft.{at_gap};
 
 use crate::kind::Kind;
 

@@ -3,15 +3,19 @@ ghost use Rattle.std.specs.Prelude.{◌≡◌};
 ghost use Rattle.pn_glob.specs.declared.fault.Stop.TheVariants.{Memory as no_memory};
 
 use std::alloc::{AllocError, AllocFailed};
+use thiserror::Error;
 
 /// Why texts are no list of patterns.
-#[derive(Clone, Copy, Debug, PartialEq, Eq)]
+#[derive(Clone, Copy, Debug, Error, PartialEq, Eq)]
 pub enum GlobFault {
     /// The pattern, counted from 0, and its first byte at which no reading goes on, or its length where it ends too
     /// early.
+    #[error("pattern {0}: no pattern goes on at byte {1}")]
     BadByte(usize, usize),
     /// A pattern stands for more than 64 texts without braces.
+    #[error("a pattern stands for more than 64 texts")]
     TooMany,
+    #[error("out of memory")]
     Memory,
 }
 

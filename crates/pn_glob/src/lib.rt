@@ -2,7 +2,13 @@
 //!
 //! A list is read exactly by the grammar of patterns, and no texts have two answers. `BadByte` names the first byte at
 //! which no reading goes on. A pattern with braces stands for texts without them, and contracts see a list as those texts.
-//! Matching takes no memory, and steps in proportion to the pattern's length times the text's.
+//! Matching allocates nothing.
+//!
+//!     let list = PatternList::paths(alloc, &texts)?;
+//!     let found = list.matches("packages/app");
+//!
+//! Between two gaps each place of the text is tried once, so a match takes steps in proportion to the pattern's length
+//! times the text's. No clause says so.
 #![tactic(auto)]
 
 mod bytes;

@@ -1,7 +1,7 @@
 // Lists of patterns.
 ghost use Rattle.std.specs.Prelude.{◌≡◌, ◌∷◌, [], map, MatchOption, IfOk, IfErr, OnOk};
 ghost use Rattle.std.specs.List.{list_any};
-ghost use Rattle.pn_glob.specs.ListSteps.{Added, IsBad, fault_of};
+ghost use Rattle.pn_glob.specs.ReadLists.{Added, IsBad, fault_of};
 ghost use Rattle.pn_glob.specs.Lists.{AreNames, ArePaths, ReadAll, Refused, or_star};
 ghost use Rattle.pn_glob.specs.Matching.{Patterns, fits, list_matches};
 

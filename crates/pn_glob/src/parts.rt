@@ -1,7 +1,7 @@
 // The parts of a path, one after another.
 ghost use Rattle.std.specs.Prelude.{◌≡◌, ◌++◌, ℕ, List, [], ◌∷◌, MatchOption};
 ghost use Rattle.pn_glob.specs.Bytes.{parts};
-ghost use Rattle.pn_glob.specs.Steps.{left_of, parts_behind};
+ghost use Rattle.pn_glob.specs.WhatIsLeft.{left_of, parts_behind};
 
 use crate::bytes::next;
 

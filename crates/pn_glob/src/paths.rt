@@ -4,7 +4,7 @@ ghost use Rattle.std.specs.Str.{bytes_eq};
 ghost use Rattle.pn_glob.specs.Bytes.{is_hidden, parts};
 ghost use Rattle.pn_glob.specs.Gaps.{any_later, any_rest, matches};
 ghost use Rattle.pn_glob.specs.Matching.{part_fits, part_rules};
-ghost use Rattle.pn_glob.specs.Steps.{at_gap, left_of};
+ghost use Rattle.pn_glob.specs.WhatIsLeft.{at_gap, left_of};
 
 use crate::bytes::{bytes_match, next};
 use crate::kind::Kind;

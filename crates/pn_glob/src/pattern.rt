@@ -1,6 +1,6 @@
 // One pattern of a list.
 ghost use Rattle.std.specs.Prelude.{◌≡◌, ◌==◌, ◌++◌, ◌∷◌, ◌≤◌, [], length, map, MatchOption, IfOk, IfErr, false};
-ghost use Rattle.pn_glob.specs.ListSteps.{IsBad};
+ghost use Rattle.pn_glob.specs.ReadLists.{IsBad};
 ghost use Rattle.pn_glob.specs.Lists.{Reads, before_slash, behind_bang, behind_dot, is_negative};
 ghost use Rattle.pn_glob.specs.Reading.{starts_with};
 

@@ -11,7 +11,7 @@ enum Read {
 }
 
 // Patterns with blanks between them, texts that they match, and texts that they don't match, with `;` between.
-const PATHS: [&str; 24] = [
+const PATHS: &[&str] = &[
     "packages/*;packages/a packages/b.c;packages packages/a/b packages/.a",
     "packages/**;packages packages/a packages/a/b;packages/.a packages/a/.b app",
     "**;a a/b;.a a/.b .a/b",
@@ -38,7 +38,7 @@ const PATHS: [&str; 24] = [
     "./!a,b;!a,b;a b !a",
 ];
 
-const NAMES: [&str; 11] = [
+const NAMES: &[&str] = &[
     "*;a @s/a .b;",
     "@s/*;@s/a @s/;@t/a s/a",
     "*eslint*;eslint @x/eslint-y;esl",
@@ -94,7 +94,7 @@ fn is_right(alloc: Global, read: Read, row: &str) -> bool {
 #[test]
 fn rows_of_path_patterns(rt: HostRuntime) -> Result<(), Fail> {
     let alloc = rt.alloc();
-    for row in PATHS {
+    for &row in PATHS {
         assert!(rt; is_right(alloc, Read::Paths, row));
     }
     Ok(())
@@ -103,7 +103,7 @@ fn rows_of_path_patterns(rt: HostRuntime) -> Result<(), Fail> {
 #[test]
 fn rows_of_name_patterns(rt: HostRuntime) -> Result<(), Fail> {
     let alloc = rt.alloc();
-    for row in NAMES {
+    for &row in NAMES {
         assert!(rt; is_right(alloc, Read::Names, row));
     }
     Ok(())
@@ -116,7 +116,7 @@ fn fault(alloc: Global, read: Read, patterns: &str) -> Option<GlobFault> {
     }
 }
 
-const REFUSED_PATHS: [(&str, GlobFault); 15] = [
+const REFUSED_PATHS: &[(&str, GlobFault)] = &[
     ("a[b]", GlobFault::BadByte(0, 1)),
     ("a]", GlobFault::BadByte(0, 1)),
     ("(a)", GlobFault::BadByte(0, 0)),
@@ -137,7 +137,7 @@ const REFUSED_PATHS: [(&str, GlobFault); 15] = [
     ),
 ];
 
-const REFUSED_NAMES: [(&str, GlobFault); 4] = [
+const REFUSED_NAMES: &[(&str, GlobFault)] = &[
     ("{a}", GlobFault::BadByte(0, 0)),
     ("a]", GlobFault::BadByte(0, 1)),
     ("!a(", GlobFault::BadByte(0, 2)),
@@ -147,10 +147,10 @@ const REFUSED_NAMES: [(&str, GlobFault); 4] = [
 #[test]
 fn refusals_name_the_first_place(rt: HostRuntime) -> Result<(), Fail> {
     let alloc = rt.alloc();
-    for (patterns, wanted) in REFUSED_PATHS {
+    for &(patterns, wanted) in REFUSED_PATHS {
         assert!(rt; fault(alloc, Read::Paths, patterns) == Some(wanted));
     }
-    for (patterns, wanted) in REFUSED_NAMES {
+    for &(patterns, wanted) in REFUSED_NAMES {
         assert!(rt; fault(alloc, Read::Names, patterns) == Some(wanted));
     }
     assert!(rt; fault(alloc, Read::Paths, "{a,b}{a,b}{a,b}{a,b}{a,b}{a,b}") == None);

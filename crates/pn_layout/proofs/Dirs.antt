@@ -40,7 +40,7 @@ text_back (x ∷ xs) (y ∷ ys) h k e =
     ap (λ b. b ∷ xs) first ∙ ap (λ bs. y ∷ bs) rest
 
 -- a version is what stands behind the last `@`
-last_at : (m n v w : List ℕ) → Lacks 64 v → Lacks 64 w → m ++ 64 ∷ v ≡ n ++ 64 ∷ w → (m ≡ n) × (v ≡ w)
+pub last_at : (m n v w : List ℕ) → Lacks 64 v → Lacks 64 w → m ++ 64 ∷ v ≡ n ++ 64 ∷ w → (m ≡ n) × (v ≡ w)
 last_at [] [] v w h k e = (refl, cc)
 last_at [] (y ∷ n) v w h k e = let tails : v ≡ n ++ 64 ∷ w = cc in absurd (lacks_not 64 n w (subst (Lacks 64) tails h))
 last_at (x ∷ m) [] v w h k e = let tails : w ≡ m ++ 64 ∷ v = cc in absurd (lacks_not 64 m v (subst (Lacks 64) tails k))

@@ -5,6 +5,7 @@ use Rattle.std.specs.List.{flat_map}
 use Rattle.std.specs.Cmp.Derive.{both_true}
 use Rattle.std.proofs.lemmas.List.{take_more, map-append}
 use Rattle.std.proofs.lemmas.Grind.{flat_map-append}
+use Rattle.pn_text.specs.Ids.{id_name}
 use Rattle.pn_text.specs.Path.{Path, text_below, SpellsParts}
 use Rattle.pn_text.specs.Name.{is_name, name_path}
 use Rattle.pn_text.proofs.Paths.{same_path-Decides}
@@ -93,12 +94,12 @@ pub way_is : (text up lead dir name up2 dir2 name2 : List ℕ) → text ≡ up +
     → text ≡ up2 ++ lead ++ dir2 ++ codes "/node_modules/" ++ name2
 way_is text up lead dir name up2 dir2 name2 e f g h = e ∙ (λ i. f i ++ lead ++ g i ++ codes "/node_modules/" ++ h i)
 
-pub home_spelled : (text dir name : List ℕ) (p : Package) → text ≡ [] ++ codes ".pnpm/" ++ dir ++ codes "/node_modules/" ++ name → dir ≡ dir_name (called p) → name ≡ p.name → is_name name ≡ true
+pub home_spelled : (text dir name : List ℕ) (p : Package) → text ≡ [] ++ codes ".pnpm/" ++ dir ++ codes "/node_modules/" ++ name → dir ≡ dir_name (called p) → name ≡ (id_name p.id) → is_name name ≡ true
     → SpellsParts text (home_of [] (called p))
 home_spelled text dir name p e f g named =
-    spells_same text (codes ".pnpm/" ++ dir_name (called p) ++ codes "/node_modules/" ++ p.name) (home_of [] (called p))
-    (way_is text [] (codes ".pnpm/") dir name [] (dir_name (called p)) p.name e refl f g)
-    (spells_beside (called p) p.name (subst (λ n. is_name n ≡ true) g named))
+    spells_same text (codes ".pnpm/" ++ dir_name (called p) ++ codes "/node_modules/" ++ (id_name p.id)) (home_of [] (called p))
+    (way_is text [] (codes ".pnpm/") dir name [] (dir_name (called p)) (id_name p.id) e refl f g)
+    (spells_beside (called p) (id_name p.id) (subst (λ n. is_name n ≡ true) g named))
 
 -- a package's leaves: its folder, its files, its links
 pub draws_package : {T E : Type 0} (r : Result T E) (at : Path) (p : Package) (a b c d : Drawing) → Draws a b ((home_of at (called p), Folder) ∷ [])

@@ -2,9 +2,12 @@
 use Rattle.std.proofs.Common.{◌≡◌, ◌≢◌, ℕ, List, [], ◌∷◌, ◌++◌, refl, sym, ap, ◌∙◌, subst, true, Some, append_assoc}
 use Rattle.std.specs.Prelude.{Option, codes}
 use Rattle.std.specs.List.{Contains}
+use Rattle.pn_text.specs.Ids.{id_name}
 use Rattle.pn_text.specs.Path.{Path}
 use Rattle.pn_text.specs.Name.{name_path, modules}
 use Rattle.pn_text.specs.Relative.{parent_of, IsRelative}
+use Rattle.pn_text.proofs.Members.{from_map, to_map, in_one, here}
+use Rattle.pn_text.proofs.Relatives.{one_text}
 use Rattle.pn_fs.specs.Tree.{Entry, folder, file, link, Tree}
 use Rattle.pn_node.specs.Plan.{Instance, TopLink, marker_name, home, link_place, top_place, IsPlanned, marker, own, content, dependency, top, InBuild, managed, planned, between}
 use Rattle.pn_node.proofs.NamePaths.{shape, shape_filled}
@@ -19,11 +22,10 @@ use Rattle.pn_layout.specs.Store.{store_of, dir_name, beside_of, home_of, top_te
 use Rattle.pn_layout.specs.Sound.{called, AreSoundDependencies, AreSound, FilesStand}
 use Rattle.pn_layout.specs.Layout.{marker_text, file_bytes, instance_of, top_of, plan_of}
 use Rattle.pn_layout.specs.Leaves.{leaves_of}
-use Rattle.pn_layout.proofs.Contents.{here, only, in_map, from_map}
 use Rattle.pn_layout.proofs.Dirs.{one_dir}
 use Rattle.pn_layout.proofs.Leafs.{IsLeafIn, own_in, file_in, link_in, IsLeaf, marks, direct_to, inside, Conforms, leaf_from, leaf_to, store_part, conform}
 use Rattle.pn_layout.proofs.Plans.{file_from}
-use Rattle.pn_layout.proofs.Ways.{one_text, top_relative, beside_relative}
+use Rattle.pn_layout.proofs.Ways.{top_relative, beside_relative}
 use Rattle.pn_layout.proofs.Within.{below_from, is_below_at, within_from, is_within_at}
 
 filled_below : (q at : Path) → q ≢ [] → is_below at (q ++ at) ≡ true
@@ -65,16 +67,16 @@ IsPlannedAs r at direct packages q w = (e : Entry) × IsPlanned (plan_of r at di
 
 planned_in : (r : Tree) (at : Path) (direct : List Pair) (packages : List Package) → AreSound packages → (p : Package) → Contains packages p → (z : Path) (w : What) → IsLeafIn p z w
     → IsPlannedAs r at direct packages (z ++ beside_of at (called p)) w
-planned_in r at direct packages sound p p_in _ _ own_in = (folder, own (instance_of r at p) (in_map (instance_of r at) packages p p_in), λ s. refl)
+planned_in r at direct packages sound p p_in _ _ own_in = (folder, own (instance_of r at p) (to_map (instance_of r at) packages p p_in), λ s. refl)
 planned_in r at direct packages sound p p_in _ _ (file_in f f_in) = (
   file (file_bytes (r (f ++ p.folder))),
-  subst (λ (q : Path). IsPlanned (plan_of r at direct packages) q (file (file_bytes (r (f ++ p.folder))))) (sym (append_assoc f (name_path p.name) (beside_of at (called p))))
-      (content (instance_of r at p) f (file_bytes (r (f ++ p.folder))) (in_map (instance_of r at) packages p p_in) (in_map (λ (f : Path). (f, file_bytes (r (f ++ p.folder)))) p.files.items f f_in)),
+  subst (λ (q : Path). IsPlanned (plan_of r at direct packages) q (file (file_bytes (r (f ++ p.folder))))) (sym (append_assoc f (name_path (id_name p.id)) (beside_of at (called p))))
+      (content (instance_of r at p) f (file_bytes (r (f ++ p.folder))) (to_map (instance_of r at) packages p p_in) (to_map (λ (f : Path). (f, file_bytes (r (f ++ p.folder)))) p.files.items f f_in)),
   λ s. let there = s p f p_in f_in in file_stands (r (f ++ p.folder)) there.0 there.1,
 )
 planned_in r at direct packages sound p p_in _ _ (link_in d d_in) = (
   link (beside_text d),
-  dependency (instance_of r at p) d.0 (home_of at d) (beside_text d) (in_map (instance_of r at) packages p p_in) (in_map (λ (d : Pair). (d.0, home_of at d)) p.dependencies d d_in)
+  dependency (instance_of r at p) d.0 (home_of at d) (beside_text d) (to_map (instance_of r at) packages p p_in) (to_map (λ (d : Pair). (d.0, home_of at d)) p.dependencies d d_in)
       (beside_relative at (called p) d ((sound.each p p_in).dependencies.each d d_in) (own_dir packages sound p p_in d d_in)),
   λ s. refl,
 )
@@ -82,7 +84,7 @@ planned_in r at direct packages sound p p_in _ _ (link_in d d_in) = (
 planned_as : (r : Tree) (at : Path) (direct : List Pair) (packages : List Package) → AreSoundDependencies direct → AreSound packages → (q : Path) (w : What) → IsLeaf at direct packages q w → IsPlannedAs r at direct packages q w
 planned_as r at direct packages sd sound _ _ marks = (file marker_text, marker at marker_text (here (at, marker_text) []), λ s. refl)
 planned_as r at direct packages sd sound _ _ (direct_to d d_in) =
-    (link (top_text d), top (top_of at d) (top_text d) (in_map (top_of at) direct d d_in) (top_relative at d (sd.each d d_in)), λ s. refl)
+    (link (top_text d), top (top_of at d) (top_text d) (to_map (top_of at) direct d d_in) (top_relative at d (sd.each d d_in)), λ s. refl)
 planned_as r at direct packages sd sound _ _ (inside p z w p_in h) = planned_in r at direct packages sound p p_in z w h
 
 -- And each planned entry is that of a leaf.
@@ -94,8 +96,8 @@ content_as : (r : Tree) (at : Path) (direct : List Pair) (packages : List Packag
 content_as r at direct packages p p_in f bytes h =
     let from = file_from r p f bytes h in (
       Copied (f ++ p.folder),
-      subst (λ (q : Path). IsLeaf at direct packages q (Copied (f ++ p.folder))) (append_assoc f (name_path p.name) (beside_of at (called p)))
-          (inside p (f ++ name_path p.name) (Copied (f ++ p.folder)) p_in (file_in f from.0)),
+      subst (λ (q : Path). IsLeaf at direct packages q (Copied (f ++ p.folder))) (append_assoc f (name_path (id_name p.id)) (beside_of at (called p)))
+          (inside p (f ++ name_path (id_name p.id)) (Copied (f ++ p.folder)) p_in (file_in f from.0)),
       λ s. let there = s p f p_in from.0 in ap (λ b. Some (file b)) from.1 ∙ file_stands (r (f ++ p.folder)) there.0 there.1,
     )
 
@@ -114,10 +116,10 @@ link_as r at direct packages sound p p_in x target text h rel =
 
 leaf_as : (r : Tree) (at : Path) (direct : List Pair) (packages : List Package) → AreSoundDependencies direct → AreSound packages → (q : Path) (e : Entry) → IsPlanned (plan_of r at direct packages) q e → IsLeafAs r at direct packages q e
 leaf_as r at direct packages sd sound _ _ (marker m text h) =
-    subst (λ (l : Path × List ℕ). IsLeafAs r at direct packages (marker_name ∷ l.0) (file l.1)) (only (at, marker_text) (m, text) h) (Bytes marker_text, marks, λ s. refl)
+    subst (λ (l : Path × List ℕ). IsLeafAs r at direct packages (marker_name ∷ l.0) (file l.1)) (in_one (at, marker_text) (m, text) h) (Bytes marker_text, marks, λ s. refl)
 leaf_as r at direct packages sd sound _ _ (own g h) =
     let p = from_map (instance_of r at) packages g h in
-    subst (λ (g : Instance). IsLeafAs r at direct packages (home (store_of at) g) folder) p.2 (Folder, inside p.0 (name_path p.0.name) Folder p.1 own_in, λ s. refl)
+    subst (λ (g : Instance). IsLeafAs r at direct packages (home (store_of at) g) folder) p.2 (Folder, inside p.0 (name_path (id_name p.0.id)) Folder p.1 own_in, λ s. refl)
 leaf_as r at direct packages sd sound _ _ (content g f bytes h k) =
     let p = from_map (instance_of r at) packages g h in
     subst (λ (g : Instance). Contains g.files (f, bytes) → IsLeafAs r at direct packages (f ++ home (store_of at) g) (file bytes)) p.2 (content_as r at direct packages p.0 p.1 f bytes) k
@@ -151,12 +153,12 @@ to_build r at direct packages sd sound _ _ (between_entry q p w h below within) 
 pub from_build : (r : Tree) (at : Path) (direct : List Pair) (packages : List Package) → AreSoundDependencies direct → AreSound packages → (q : Path) (e : Entry) → InBuild (plan_of r at direct packages) q e
     → (w : What) × IsEntry at (leaves_of at direct packages) q w × (FilesStand r packages → StandsAs (Some r) w (Some e))
 from_build r at direct packages sd sound _ _ (managed m h) =
-    (Folder, subst (λ (m : Path). IsEntry at (leaves_of at direct packages) m Folder) (only at m h) top_entry, λ s. refl)
+    (Folder, subst (λ (m : Path). IsEntry at (leaves_of at direct packages) m Folder) (in_one at m h) top_entry, λ s. refl)
 from_build r at direct packages sd sound _ _ (planned q e h) = let x = leaf_as r at direct packages sd sound q e h in (x.0, leaf_entry q x.0 (leaf_to at direct packages q x.0 x.1), x.2)
 from_build r at direct packages sd sound _ _ (between m s below x e h k) =
     let y = leaf_as r at direct packages sd sound (below ++ x ∷ (s ++ m)) e k in (
       Folder,
       between_entry (s ++ m) (below ++ x ∷ (s ++ m)) y.0 (leaf_to at direct packages (below ++ x ∷ (s ++ m)) y.0 y.1) (is_below_at below x (s ++ m))
-          (subst (λ (m : Path). is_within at (s ++ m) ≡ true) (only at m h) (is_within_at s at)),
+          (subst (λ (m : Path). is_within at (s ++ m) ≡ true) (in_one at m h) (is_within_at s at)),
       λ s. refl,
     )

@@ -4,8 +4,10 @@ use Rattle.std.specs.Prelude.{map, codes}
 use Rattle.std.specs.List.{Contains, flat_map}
 use Rattle.std.proofs.lemmas.List.Elements.{Contains-append_left, Contains-append_right, Contains-append_cases}
 use Rattle.std.proofs.lemmas.List.{append_cancel_right}
+use Rattle.pn_text.specs.Ids.{id_name}
 use Rattle.pn_text.specs.Path.{Path}
 use Rattle.pn_text.specs.Name.{is_name, name_path, modules}
+use Rattle.pn_text.proofs.Members.{from_map, to_map, here, there, in_cons}
 use Rattle.pn_node.specs.Plan.{marker_name}
 use Rattle.pn_node.proofs.NamePaths.{shape, snoc_same, same_name}
 use Rattle.pn_plan.specs.declared.planned.What.{What}
@@ -16,15 +18,15 @@ use Rattle.pn_layout.specs.Store.{store_of, dir_name, beside_of, home_of, top_te
 use Rattle.pn_layout.specs.Sound.{called, AreSoundDependencies, IsSoundPackage, AreSound}
 use Rattle.pn_layout.specs.Layout.{marker_text}
 use Rattle.pn_layout.specs.Leaves.{Leaf, marker_leaf, top_leaf, file_leaf, link_leaf, package_leaves, leaves_of}
-use Rattle.pn_layout.proofs.Contents.{here, there, first_or_later, in_map, from_map, in_flat_map, from_flat_map}
+use Rattle.pn_layout.proofs.Contents.{in_flat_map, from_flat_map}
 use Rattle.pn_layout.proofs.Plans.{no_dot}
 use Rattle.pn_layout.proofs.Dirs.{one_dir}
 use Rattle.pn_layout.proofs.Once.{once}
 
 -- what stands in the folder of a package
 pub data IsLeafIn (p : Package) : Path → What → Type 0 where
-  own_in : IsLeafIn p (name_path p.name) Folder
-  file_in : (f : Path) → Contains p.files.items f → IsLeafIn p (f ++ name_path p.name) (Copied (f ++ p.folder))
+  own_in : IsLeafIn p (name_path (id_name p.id)) Folder
+  file_in : (f : Path) → Contains p.files.items f → IsLeafIn p (f ++ name_path (id_name p.id)) (Copied (f ++ p.folder))
   link_in : (d : Pair) → Contains p.dependencies d → IsLeafIn p (name_path d.0) (Link (beside_text d))
 
 pub data IsLeaf (at : Path) (direct : List Pair) (packages : List Package) : Path → What → Type 0 where
@@ -36,14 +38,14 @@ as_leaf : (at : Path) (direct : List Pair) (packages : List Package) (l m : Leaf
 as_leaf at direct packages l m e h = subst (λ (l : Leaf). IsLeaf at direct packages l.0 l.1) e h
 
 leaf_of_package : (at : Path) (direct : List Pair) (packages : List Package) (p : Package) → Contains packages p → (l : Leaf) → Contains (package_leaves at p) l → IsLeaf at direct packages l.0 l.1
-leaf_of_package at direct packages p p_in l h = elim (first_or_later (home_of at (called p), Folder) l _ h) [
-  | inl a ↦ as_leaf at direct packages (home_of at (called p), Folder) l a (inside p (name_path p.name) Folder p_in own_in)
+leaf_of_package at direct packages p p_in l h = elim (in_cons (home_of at (called p), Folder) _ l h) [
+  | inl a ↦ as_leaf at direct packages (home_of at (called p), Folder) l a (inside p (name_path (id_name p.id)) Folder p_in own_in)
   | inr b ↦ elim (Contains-append_cases (map (file_leaf at (called p) p.folder) p.files.items) (map (link_leaf at (called p)) p.dependencies) l b) [
     | inl a ↦
         let f = from_map (file_leaf at (called p) p.folder) p.files.items l a in
-        as_leaf at direct packages ((f.0 ++ name_path p.name) ++ beside_of at (called p), Copied (f.0 ++ p.folder)) l
-        (ap (λ q. (q, Copied (f.0 ++ p.folder))) (append_assoc f.0 (name_path p.name) (beside_of at (called p))) ∙ f.2)
-        (inside p (f.0 ++ name_path p.name) (Copied (f.0 ++ p.folder)) p_in (file_in f.0 f.1))
+        as_leaf at direct packages ((f.0 ++ name_path (id_name p.id)) ++ beside_of at (called p), Copied (f.0 ++ p.folder)) l
+        (ap (λ q. (q, Copied (f.0 ++ p.folder))) (append_assoc f.0 (name_path (id_name p.id)) (beside_of at (called p))) ∙ f.2)
+        (inside p (f.0 ++ name_path (id_name p.id)) (Copied (f.0 ++ p.folder)) p_in (file_in f.0 f.1))
     | inr b ↦
         let d = from_map (link_leaf at (called p)) p.dependencies l b in
         as_leaf at direct packages (link_leaf at (called p) d.0) l d.2 (inside p (name_path d.0.0) (Link (beside_text d.0)) p_in (link_in d.0 d.1))
@@ -52,7 +54,7 @@ leaf_of_package at direct packages p p_in l h = elim (first_or_later (home_of at
 
 -- each leaf of the list is of a kind
 pub leaf_from : (at : Path) (direct : List Pair) (packages : List Package) (l : Leaf) → Contains (leaves_of at direct packages) l → IsLeaf at direct packages l.0 l.1
-leaf_from at direct packages l h = elim (first_or_later (marker_leaf at) l _ h) [
+leaf_from at direct packages l h = elim (in_cons (marker_leaf at) _ l h) [
   | inl a ↦ as_leaf at direct packages (marker_leaf at) l a marks
   | inr b ↦ elim (Contains-append_cases (map (top_leaf at) direct) (flat_map (package_leaves at) packages) l b) [
     | inl a ↦ let d = from_map (top_leaf at) direct l a in as_leaf at direct packages (top_leaf at d.0) l d.2 (direct_to d.0 d.1)
@@ -63,22 +65,22 @@ leaf_from at direct packages l h = elim (first_or_later (marker_leaf at) l _ h) 
 leaf_in : (at : Path) (p : Package) (z : Path) (w : What) → IsLeafIn p z w → Contains (package_leaves at p) (z ++ beside_of at (called p), w)
 leaf_in at p _ _ own_in = here (home_of at (called p), Folder) _
 leaf_in at p _ _ (file_in f f_in) =
-    subst (Contains (package_leaves at p)) (ap (λ q. (q, Copied (f ++ p.folder))) (sym (append_assoc f (name_path p.name) (beside_of at (called p)))))
-    (there (home_of at (called p), Folder) (file_leaf at (called p) p.folder f) _
+    subst (Contains (package_leaves at p)) (ap (λ q. (q, Copied (f ++ p.folder))) (sym (append_assoc f (name_path (id_name p.id)) (beside_of at (called p)))))
+    (there (home_of at (called p), Folder) _ (file_leaf at (called p) p.folder f)
     (Contains-append_left (map (file_leaf at (called p) p.folder) p.files.items) (map (link_leaf at (called p)) p.dependencies) (file_leaf at (called p) p.folder f)
-    (in_map (file_leaf at (called p) p.folder) p.files.items f f_in)))
+    (to_map (file_leaf at (called p) p.folder) p.files.items f f_in)))
 leaf_in at p _ _ (link_in d d_in) =
-    there (home_of at (called p), Folder) (link_leaf at (called p) d) _
+    there (home_of at (called p), Folder) _ (link_leaf at (called p) d)
     (Contains-append_right (map (file_leaf at (called p) p.folder) p.files.items) (map (link_leaf at (called p)) p.dependencies) (link_leaf at (called p) d)
-    (in_map (link_leaf at (called p)) p.dependencies d d_in))
+    (to_map (link_leaf at (called p)) p.dependencies d d_in))
 
 -- and each of a kind is in the list
 pub leaf_to : (at : Path) (direct : List Pair) (packages : List Package) (q : Path) (w : What) → IsLeaf at direct packages q w → Contains (leaves_of at direct packages) (q, w)
 leaf_to at direct packages _ _ marks = here (marker_leaf at) _
 leaf_to at direct packages _ _ (direct_to d d_in) =
-    there (marker_leaf at) (top_leaf at d) _ (Contains-append_left (map (top_leaf at) direct) (flat_map (package_leaves at) packages) (top_leaf at d) (in_map (top_leaf at) direct d d_in))
+    there (marker_leaf at) _ (top_leaf at d) (Contains-append_left (map (top_leaf at) direct) (flat_map (package_leaves at) packages) (top_leaf at d) (to_map (top_leaf at) direct d d_in))
 leaf_to at direct packages _ _ (inside p z w p_in h) =
-    there (marker_leaf at) (z ++ beside_of at (called p), w) _ (Contains-append_right (map (top_leaf at) direct) (flat_map (package_leaves at) packages) (z ++ beside_of at (called p), w)
+    there (marker_leaf at) _ (z ++ beside_of at (called p), w) (Contains-append_right (map (top_leaf at) direct) (flat_map (package_leaves at) packages) (z ++ beside_of at (called p), w)
     (in_flat_map (package_leaves at) packages p (z ++ beside_of at (called p), w) p_in (leaf_in at p z w h)))
 
 -- what one leaf says of another one that stands so far below it
@@ -115,21 +117,21 @@ once_by all s d e d_in e_in same = once all s.rising d e d_in e_in same
 in_package : (p : Package) → IsSoundPackage p → (s y z : Path) (v w : What) → IsLeafIn p y v → IsLeafIn p z w → s ++ y ≡ z → Conforms s v w
 in_package p sound s _ _ _ _ own_in own_in e = folders_conform s
 in_package p sound s _ _ _ _ own_in (file_in f f_in) e =
-    folder_conforms s (Copied (f ++ p.folder)) (λ none. (sound.files f f_in).below (sym (append_cancel_right s f (name_path p.name) e) ∙ none))
+    folder_conforms s (Copied (f ++ p.folder)) (λ none. (sound.files f f_in).below (sym (append_cancel_right s f (name_path (id_name p.id)) e) ∙ none))
 in_package p sound s _ _ _ _ own_in (link_in d d_in) e =
-    absurd (sound.others d d_in (sym (same_name p.name d.0 s [] sound.pair.named (sound.dependencies.each d d_in).named e)))
+    absurd (sound.others d d_in (sym (same_name (id_name p.id) d.0 s [] sound.pair.named (sound.dependencies.each d d_in).named e)))
 in_package p sound s _ _ _ _ (file_in f f_in) own_in e =
-    absurd ((sound.files f f_in).below (both_empty s f (before_name p.name p.name s f [] refl e)).1)
+    absurd ((sound.files f f_in).below (both_empty s f (before_name (id_name p.id) (id_name p.id) s f [] refl e)).1)
 in_package p sound s _ _ _ _ (file_in f f_in) (file_in g g_in) e =
-    let below : s ++ f ≡ g = before_name p.name p.name s f g refl e in
+    let below : s ++ f ≡ g = before_name (id_name p.id) (id_name p.id) s f g refl e in
     let none : s ≡ [] = sound.apart s f f_in (subst (Contains p.files.items) (sym below) g_in) in
     same_conform s (Copied (f ++ p.folder)) (Copied (g ++ p.folder)) none (ap (λ h. Copied (h ++ p.folder)) (ap (λ t. t ++ f) (sym none) ∙ below))
 in_package p sound s _ _ _ _ (file_in f f_in) (link_in d d_in) e =
-    absurd (sound.others d d_in (sym (names_same p.name d.0 s f [] sound.pair.named (sound.dependencies.each d d_in).named e)))
+    absurd (sound.others d d_in (sym (names_same (id_name p.id) d.0 s f [] sound.pair.named (sound.dependencies.each d d_in).named e)))
 in_package p sound s _ _ _ _ (link_in d d_in) own_in e =
-    absurd (sound.others d d_in (same_name d.0 p.name s [] (sound.dependencies.each d d_in).named sound.pair.named e))
+    absurd (sound.others d d_in (same_name d.0 (id_name p.id) s [] (sound.dependencies.each d d_in).named sound.pair.named e))
 in_package p sound s _ _ _ _ (link_in d d_in) (file_in g g_in) e =
-    absurd (sound.others d d_in (same_name d.0 p.name s g (sound.dependencies.each d d_in).named sound.pair.named e))
+    absurd (sound.others d d_in (same_name d.0 (id_name p.id) s g (sound.dependencies.each d d_in).named sound.pair.named e))
 in_package p sound s _ _ _ _ (link_in d d_in) (link_in c c_in) e =
     let names : d.0 ≡ c.0 = same_name d.0 c.0 s [] (sound.dependencies.each d d_in).named (sound.dependencies.each c c_in).named e in
     let none : s ≡ [] = append_cancel_right s [] (name_path c.0) (ap (λ n. s ++ name_path n) (sym names) ∙ e) in

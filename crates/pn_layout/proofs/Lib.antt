@@ -13,3 +13,4 @@ pub mod Once
 pub mod Leafs
 pub mod Entries
 pub mod Outcomes
+pub mod RefusedLemmas

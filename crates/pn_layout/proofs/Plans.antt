@@ -5,6 +5,7 @@ use Rattle.std.specs.List.{Contains}
 use Rattle.std.proofs.lemmas.List.{append_cancel_right}
 use Rattle.pn_text.specs.Path.{Path}
 use Rattle.pn_text.specs.Name.{is_name, is_name_part, name_path}
+use Rattle.pn_text.proofs.Members.{from_map, to_map, in_one, here}
 use Rattle.pn_fs.specs.Tree.{folder, Tree}
 use Rattle.pn_node.specs.Plan.{Instance, TopLink, marker_name, IsBuilt, IsSoundTop, IsSoundFile, planned, own}
 use Rattle.pn_node.proofs.NamePaths.{Shape, single, double, shape, snoc_same}
@@ -14,7 +15,6 @@ use Rattle.pn_layout.specs.Store.{store_of, dir_name, home_of}
 use Rattle.pn_layout.specs.Sound.{called, IsSoundPair, IsSoundPackage, AreSound, IsAmong}
 use Rattle.pn_layout.specs.Layout.{file_bytes, instance_of, top_of, plan_of}
 use Rattle.pn_layout.specs.Laws.{SoundLaw, LandsLaw}
-use Rattle.pn_layout.proofs.Contents.{here, only, in_map, from_map}
 use Rattle.pn_layout.proofs.Dirs.{one_dir, dir_no_modules}
 
 dotted : (y x : List ℕ) → is_name_part y ≡ true → y ≡ 46 ∷ x → ⊥
@@ -85,7 +85,7 @@ marked top q e =
 pub sound : SoundLaw
 sound r top direct packages s all = record {
   under = (top, codes ".pnpm" ∷ [], here top [], refl);
-  stores = λ m q m_in is. absurd (longer q top (codes ".pnpm") (subst (λ (m : Path). m ≡ q ++ store_of top) (sym (only top m m_in)) is));
+  stores = λ m q m_in is. absurd (longer q top (codes ".pnpm") (subst (λ (m : Path). m ≡ q ++ store_of top) (sym (in_one top m m_in)) is));
   apart = apart r top packages all;
   dirs = λ g g_in e. let p = of_instance r top packages g g_in in dir_no_modules (called p.0) (ap (λ (g : Instance). g.dir) p.2 ∙ e);
   names = λ g g_in. let p = of_instance r top packages g g_in in subst (λ (g : Instance). is_name g.name ≡ true) p.2 (all.each p.0 p.1).pair.named;
@@ -93,14 +93,14 @@ sound r top direct packages s all = record {
   links = λ g x target g_in. let p = of_instance r top packages g g_in in sound_links r top p.0 g (all.each p.0 p.1) p.2 x target;
   tops = λ l l_in. let d = from_map (top_of top) direct l l_in in subst (IsSoundTop (store_of top)) d.2 (sound_top top d.0 (s.each d.0 d.1));
   marked = λ m q text m_in is.
-      let at : top ≡ m = ap (λ (l : Path × List ℕ). l.0) (only _ (m, text) m_in) in
+      let at : top ≡ m = ap (λ (l : Path × List ℕ). l.0) (in_one _ (m, text) m_in) in
       absurd (marked top q (subst (λ (m : Path). marker_name ∷ m ≡ q ++ store_of top) (sym at) is));
 }
 
 -- what is among the packages has its folder in the build
 lands_at : (r : Tree) (top : Path) (direct : List Pair) (packages : List Package) (t : Tree) → IsBuilt t (plan_of r top direct packages) → (d : Pair) → IsAmong packages d → t (home_of top d) ≡ Some folder
 lands_at r top direct packages t built d among =
-    let g_in = in_map (instance_of r top) packages among.0 among.1 in
+    let g_in = to_map (instance_of r top) packages among.0 among.1 in
     subst (λ (d : Pair). t (home_of top d) ≡ Some folder) among.2
     (built.all (home_of top (called among.0)) folder (planned (home_of top (called among.0)) folder (own (instance_of r top among.0) g_in)))
 

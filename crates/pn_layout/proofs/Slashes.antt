@@ -1,6 +1,6 @@
 -- Texts with `+` in place of slashes.
 use Rattle.std.proofs.Common.{◌≡◌, ◌≢◌, ◌<◌, ℕ, List, [], ◌∷◌, ◌++◌, length, get_or, refl, sym, ap, ◌∙◌, true, false, arith, append_assoc, Some, None}
-use Rattle.std.specs.Prelude.{◌==◌, ◌||◌, if◌then◌else◌, map, not, IsTrue, MatchOption, Option, suc}
+use Rattle.std.specs.Prelude.{◌==◌, ◌||◌, if◌then◌else◌, map, not, IsTrue, MatchOption, Option}
 use Rattle.std.specs.Borrow.{Bor}
 use Rattle.std.specs.List.{list_any}
 use Rattle.std.proofs.lemmas.Bool.{eqb-true}
@@ -8,16 +8,11 @@ use Rattle.std.proofs.lemmas.List.{map-append}
 use Rattle.std.proofs.lemmas.Str.Pattern.{IsSplitOnceResult, split_parts}
 use Rattle.pn_text.specs.Path.{is_flat}
 use Rattle.pn_text.proofs.Paths.{not_true}
+use Rattle.pn_text.proofs.Bytes.{no_slash}
 use Rattle.pn_layout.specs.Store.{plus_for_slash}
 
 other_byte : (b : ℕ) → b ≢ 47 → (b == 47) ≡ false
 other_byte b h = elim (b == 47) as (λ c. (b == 47) ≡ c → c ≡ false) [ true ↦ λ is. absurd (h (eqb-true b 47 is)) | false ↦ λ is. refl ] refl
-
-none_flat : (xs : List ℕ) → ((i : ℕ) → i < length xs → get_or xs i 0 ≢ 47) → list_any (λ b. b == 47) xs ≡ false
-none_flat [] h = refl
-none_flat (x ∷ xs) h =
-    ap (λ a. a || list_any (λ b. b == 47) xs) (other_byte x (h 0 (omega arith)))
-    ∙ none_flat xs (λ i l. h (suc i) (omega (arith, l)))
 
 pub split_slash : (bs : List ℕ) (r : Option (Bor (List ℕ) × Bor (List ℕ))) → IsSplitOnceResult 47 bs r
     → MatchOption r (IsTrue (is_flat bs)) (λ x. IsTrue (is_flat x.0.now) × (bs ≡ x.0.now ++ 47 ∷ x.1.now))
@@ -25,8 +20,8 @@ split_slash bs r h = found bs r (split_parts 47 bs r h (omega arith)) where
   found : (bs : List ℕ) (r : Option (Bor (List ℕ) × Bor (List ℕ)))
       → MatchOption r ((i : ℕ) → i < length bs → get_or bs i 0 ≢ 47) (λ x. (bs ≡ x.0.now ++ 47 ∷ x.1.now) × ((i : ℕ) → i < length x.0.now → get_or x.0.now i 0 ≢ 47))
       → MatchOption r (IsTrue (is_flat bs)) (λ x. IsTrue (is_flat x.0.now) × (bs ≡ x.0.now ++ 47 ∷ x.1.now))
-  found bs None h = ap not (none_flat bs h)
-  found bs (Some x) h = (ap not (none_flat x.0.now h.1), h.0)
+  found bs None h = ap not (no_slash bs h)
+  found bs (Some x) h = (ap not (no_slash x.0.now h.1), h.0)
 
 same_byte : (b : ℕ) → (b == 47) ≡ false → plus_for_slash b ≡ b
 same_byte b h = ap (λ c. if c then 43 else b) h

@@ -13,7 +13,7 @@ use Rattle.semver.specs.declared.error.Error.{Error}
 use Rattle.semver.proofs.Grammar.{version_parts-sound}
 use Rattle.semver.proofs.Segments.{and-left, and-right}
 use Rattle.pn_manifest.specs.Exact.{is_exact, has_no_build, is_nil}
-use Rattle.pn_manifest.specs.Fields.{ok_of}
+use Rattle.pn_text.specs.Ids.{ok_of}
 use Rattle.pn_layout.proofs.Bytes.{Lacks, lacks-append, lacks_by}
 
 -- a byte that no version without build metadata has

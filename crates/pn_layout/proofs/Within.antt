@@ -1,20 +1,10 @@
 -- Paths below other ones.
-use Rattle.std.proofs.Common.{◌≡◌, ℕ, ◌⊎◌, inl, inr, List, [], ◌∷◌, ◌++◌, refl, sym, ap, ◌∙◌, subst, true, false, Bool}
+use Rattle.std.proofs.Common.{◌≡◌, ℕ, inl, inr, List, [], ◌∷◌, ◌++◌, refl, sym, ap, ◌∙◌, subst, true}
 use Rattle.std.specs.Prelude.{◌||◌}
 use Rattle.pn_text.specs.Path.{Path, same_path}
-use Rattle.pn_text.proofs.Paths.{same_path-Decides}
+use Rattle.pn_text.proofs.Paths.{same_path-Decides, same_path_refl}
+use Rattle.pn_text.proofs.Bools.{or_right, or_cases}
 use Rattle.pn_plan.specs.Drawing.{is_below, is_within}
-
-pub or_cases : (a b : Bool) → (a || b) ≡ true → (a ≡ true) ⊎ (b ≡ true)
-or_cases true b h = inl refl
-or_cases false b h = inr h
-
-or_right : (a b : Bool) → b ≡ true → (a || b) ≡ true
-or_right true b h = refl
-or_right false b h = h
-
-pub same_refl : (p : Path) → same_path p p ≡ true
-same_refl p = (same_path-Decides p p).1 refl
 
 pub below_from : (a p : Path) → is_below a p ≡ true → (s : Path) × (x : List ℕ) × (p ≡ s ++ x ∷ a)
 below_from a [] h = cc
@@ -24,7 +14,7 @@ below_from a (x ∷ p) h = elim (or_cases (same_path p a) (is_below a p) h) [
 ]
 
 pub is_below_at : (s : Path) (x : List ℕ) (a : Path) → is_below a (s ++ x ∷ a) ≡ true
-is_below_at [] x a = ap (λ b. b || is_below a a) (same_refl a)
+is_below_at [] x a = ap (λ b. b || is_below a a) (same_path_refl a)
 is_below_at (y ∷ s) x a = or_right (same_path (s ++ x ∷ a) a) (is_below a (s ++ x ∷ a)) (is_below_at s x a)
 
 pub within_from : (a p : Path) → is_within a p ≡ true → (s : Path) × (p ≡ s ++ a)
@@ -37,7 +27,7 @@ within_from a p h = elim (or_cases (same_path p a) (is_below a p) h) [
   regroup (y ∷ s) x a = ap (λ q. y ∷ q) (regroup s x a)
 
 pub is_within_at : (s a : Path) → is_within a (s ++ a) ≡ true
-is_within_at [] a = ap (λ b. b || is_below a a) (same_refl a)
+is_within_at [] a = ap (λ b. b || is_below a a) (same_path_refl a)
 is_within_at (y ∷ s) a = or_right (same_path (y ∷ (s ++ a)) a) (is_within a (s ++ a)) (is_within_at s a)
 
 -- what is above a path is above its entries

@@ -1,19 +1,23 @@
 -- What is known of the plan of an install.
-use Rattle.std.specs.Prelude.{◌≡◌, ◌≢◌, ℕ, true, false, List, ◌∷◌, ◌++◌, Some, None}
+use Rattle.std.specs.Prelude.{◌≡◌, ◌≢◌, ◌≤◌, ℕ, true, false, List, ◌∷◌, ◌++◌, length, map, Some, None}
 use Rattle.std.specs.List.{Contains}
-use Rattle.pn_text.specs.Path.{Path}
+use Rattle.pn_text.specs.declared.limits.TheConstants.{PATH_LIMIT}
+use Rattle.pn_text.specs.Ids.{id_name}
+use Rattle.pn_text.specs.Path.{Path, path_text}
 use Rattle.pn_text.specs.Name.{is_name, name_path, modules}
-use Rattle.pn_fs.specs.Tree.{folder, Tree, IsTree}
+use Rattle.pn_fs.specs.Tree.{Entry, folder, Tree, IsTree}
 use Rattle.pn_node.specs.Find.{find}
-use Rattle.pn_node.specs.Plan.{IsBuilt, IsSound}
+use Rattle.pn_node.specs.Plan.{InBuild, IsBuilt, IsSound}
 use Rattle.pn_node.specs.Finds.{LeadsToFolders, ends_in_modules}
 use Rattle.pn_plan.specs.declared.planned.Planned.{Planned}
 use Rattle.pn_plan.specs.Writes.{IsWritten}
 use Rattle.pn_manifest.specs.Pairs.{Pair}
 use Rattle.pn_layout.specs.declared.packages.Package.{Package}
 use Rattle.pn_layout.specs.Store.{store_of, home_of}
-use Rattle.pn_layout.specs.Sound.{called, AreSound, AreSoundDependencies, AreWhole}
+use Rattle.pn_layout.specs.Sound.{called, contents, AreSound, AreSoundDependencies, AreWhole}
 use Rattle.pn_layout.specs.Layout.{plan_of, IsLaidOut}
+use Rattle.pn_layout.specs.Refusals.{LayoutRefused}
+use Rattle.pn_layout.specs.declared.fault.LayoutFault.TheVariants.{TooLong}
 
 -- The plan of sound packages is sound.
 abbrev pub SoundLaw : Type 0
@@ -41,11 +45,11 @@ BuiltLaw = (r : Tree) (top : Path) (direct : List Pair) (packages : List Package
 -- What a folder of an installed package finds, said of the packages themselves.
 pub record FindsOwn (u : Tree) (top : Path) (p : Package) (from : Path) : Type 0 where
   -- its own name finds its package folder
-  pub own : find u from (name_path p.name) ≡ Some (home_of top (called p))
+  pub own : find u from (name_path (id_name p.id)) ≡ Some (home_of top (called p))
   -- a dependency's name finds the package folder of the version that it names
   pub dependency : (d : Pair) → Contains p.dependencies d → find u from (name_path d.0) ≡ Some (home_of top d)
   -- any other package name finds what the virtual store's folder finds
-  pub other : (x : List ℕ) → is_name x ≡ true → x ≢ p.name → ((d : Pair) → Contains p.dependencies d → d.0 ≢ x) → find u from (name_path x) ≡ find u (store_of top) (name_path x)
+  pub other : (x : List ℕ) → is_name x ≡ true → x ≢ id_name p.id → ((d : Pair) → Contains p.dependencies d → d.0 ≢ x) → find u from (name_path x) ≡ find u (store_of top) (name_path x)
 
 -- What the folders of an install find: each folder at or below a package folder, and the folder that
 -- holds the `node_modules`, other than another `node_modules`, by the project's dependencies.
@@ -58,3 +62,13 @@ pub record FindsAll (u : Tree) (top : Path) (direct : List Pair) (packages : Lis
 abbrev pub FindsLaw : Type 0
 FindsLaw = (r : Tree) (top : Path) (direct : List Pair) (packages : List Package) (u : Tree) → IsTree u → AreSoundDependencies direct → AreSound packages → AreWhole direct packages
     → IsBuilt u (plan_of r top direct packages) → FindsAll u top direct packages
+
+-- Where the paths of a build aren't too long, a list of the same packages isn't refused for one.
+abbrev pub PassedLaw : Type 0
+PassedLaw = (r : Tree) (top : Path) (direct : List Pair) (packages others : List Package) (size : ℕ) → map contents packages ≡ map contents others
+    → ((q : Path) (e : Entry) → InBuild (plan_of r top direct packages) q e → length (path_text q) ≤ PATH_LIMIT) → LayoutRefused top direct others (TooLong size) → ⊥
+
+-- The length that is told is settled by what the packages have.
+abbrev pub CauseLaw : Type 0
+CauseLaw = (top : Path) (direct : List Pair) (packages others : List Package) (size other : ℕ) → map contents packages ≡ map contents others
+    → LayoutRefused top direct packages (TooLong size) → LayoutRefused top direct others (TooLong other) → size ≡ other

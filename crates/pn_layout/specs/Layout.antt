@@ -1,6 +1,7 @@
 -- The plan of an install of one project: packages in the virtual store of its `node_modules`.
 use Rattle.std.specs.Prelude.{◌≡◌, ◌⊎◌, ℕ, List, [], ◌∷◌, ◌++◌, map, Option, Some, None, codes}
 use Rattle.std.specs.List.{Contains}
+use Rattle.pn_text.specs.Ids.{id_name}
 use Rattle.pn_text.specs.Path.{Path}
 use Rattle.pn_fs.specs.Tree.{Entry, folder, file, link, Tree}
 use Rattle.pn_node.specs.Plan.{Instance, TopLink, Plan, InBuild}
@@ -29,7 +30,7 @@ file_bytes (Some (link text)) = []
 abbrev pub instance_of : Tree → Path → Package → Instance
 instance_of r top p = record {
   dir = dir_name (called p);
-  name = p.name;
+  name = id_name p.id;
   files = map (λ (f : Path). (f, file_bytes (r (f ++ p.folder)))) p.files.items;
   links = map (λ (d : Pair). (d.0, home_of top d)) p.dependencies;
 }

@@ -3,6 +3,7 @@ use Rattle.std.specs.Prelude.{◌≡◌, ◌<◌, ◌≤◌, ℕ, length, List}
 use Rattle.std.specs.Cmp.Lexicographic.{slice_cmp}
 use Rattle.std.specs.Ordering.{nat_cmp}
 use Rattle.std.specs.declared.cmp.Ordering.TheVariants.{Less}
+use Rattle.pn_text.specs.declared.limits.TheConstants.{PATH_LIMIT}
 use Rattle.pn_text.specs.Path.{Path, path_text}
 use Rattle.pn_fs.specs.Tree.{Entry, Tree}
 use Rattle.pn_node.specs.Plan.{Plan, InBuild}
@@ -18,8 +19,8 @@ pub record IsTooLong (plan : Plan) (size : ℕ) : Type 0 where
   pub entry : Entry
   pub built : InBuild plan path entry
   pub size_is : size ≡ length (path_text path)
-  pub long : 4096 < size
-  pub first : (q : Path) (e : Entry) → InBuild plan q e → slice_cmp nat_cmp (path_text q) (path_text path) ≡ Less → length (path_text q) ≤ 4096
+  pub long : PATH_LIMIT < size
+  pub first : (q : Path) (e : Entry) → InBuild plan q e → slice_cmp nat_cmp (path_text q) (path_text path) ≡ Less → length (path_text q) ≤ PATH_LIMIT
 
 -- The paths are those of the build whatever the registry has.
 abbrev pub LayoutRefused : Path → List Pair → List Package → LayoutFault → Type 0

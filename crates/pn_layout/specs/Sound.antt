@@ -1,6 +1,8 @@
 -- What the packages of an install keep.
-use Rattle.std.specs.Prelude.{◌≡◌, ◌≢◌, ◌≤◌, List, [], ◌++◌, true, length}
+use Rattle.std.specs.Prelude.{◌≡◌, ◌≢◌, ◌≤◌, ℕ, List, [], ◌++◌, true, length}
 use Rattle.std.specs.List.{Contains}
+use Rattle.pn_text.specs.declared.limits.TheConstants.{PATH_LIMIT}
+use Rattle.pn_text.specs.Ids.{id_name, id_version}
 use Rattle.pn_text.specs.Path.{Path, path_text}
 use Rattle.pn_text.specs.Name.{is_name}
 use Rattle.pn_fs.specs.Tree.{Tree, IsFile}
@@ -9,9 +11,19 @@ use Rattle.pn_manifest.specs.Pairs.{Pair, IsRising}
 use Rattle.pn_manifest.specs.Exact.{is_exact}
 use Rattle.pn_layout.specs.declared.packages.Package.{Package}
 
--- the name and the version
+-- its name and version
 abbrev pub called : Package → Pair
-called p = (p.name, p.version)
+called p = (id_name p.id, id_version p.id)
+
+-- all that a package has
+pub record Contents : Type 0 where
+  pub id : List ℕ
+  pub dependencies : List Pair
+  pub folder : Path
+  pub files : List Path
+
+abbrev pub contents : Package → Contents
+contents p = record { id = p.id; dependencies = p.dependencies; folder = p.folder; files = p.files.items }
 
 -- a package name and an exact version
 pub record IsSoundPair (d : Pair) : Type 0 where
@@ -28,10 +40,10 @@ pub record AreSoundDependencies (all : List Pair) : Type 0 where
 pub record IsSoundPackage (p : Package) : Type 0 where
   pub pair : IsSoundPair (called p)
   pub dependencies : AreSoundDependencies p.dependencies
-  pub others : (d : Pair) → Contains p.dependencies d → d.0 ≢ p.name
+  pub others : (d : Pair) → Contains p.dependencies d → d.0 ≢ id_name p.id
   pub files : (f : Path) → Contains p.files.items f → IsSoundFile f
   pub apart : (s f : Path) → Contains p.files.items f → Contains p.files.items (s ++ f) → s ≡ []
-  pub short : (f : Path) → Contains p.files.items f → length (path_text (f ++ p.folder)) ≤ 4096
+  pub short : (f : Path) → Contains p.files.items f → length (path_text (f ++ p.folder)) ≤ PATH_LIMIT
 
 -- no two packages share a name and a version
 pub record AreSound (packages : List Package) : Type 0 where

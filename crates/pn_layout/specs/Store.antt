@@ -17,7 +17,7 @@ id_text d = d.0 ++ 64 ∷ d.1
 abbrev pub plus_for_slash : ℕ → ℕ
 plus_for_slash b = if b == 47 then 43 else b
 
--- The name of the package's folder in the virtual store. Ids of more than 120 bytes are not spoken of.
+-- the name of the package's folder in the virtual store
 abbrev pub dir_name : Pair → List ℕ
 dir_name d = map plus_for_slash (id_text d)
 

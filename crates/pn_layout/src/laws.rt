@@ -1,5 +1,5 @@
 // What is known of the plan of an install.
-ghost use Rattle.pn_layout.specs.Laws.{SoundLaw, LandsLaw, BuiltLaw, FindsLaw};
+ghost use Rattle.pn_layout.specs.Laws.{SoundLaw, LandsLaw, BuiltLaw, FindsLaw, PassedLaw, CauseLaw};
 
 /// The plan of sound packages is one in which Node finds each dependency.
 pub fn sound_law()
@@ -21,4 +21,14 @@ pub fn built_law()
 /// project's folder each of its dependencies.
 pub fn finds_law()
     ensures { FindsLaw }
+{}
+
+/// Where the paths of a build aren't too long, no list of the same packages is refused.
+pub fn passed_law()
+    ensures { PassedLaw }
+{}
+
+/// The length that a refusal tells is settled by the project's dependencies and the packages.
+pub fn cause_law()
+    ensures { CauseLaw }
 {}

@@ -1,6 +1,7 @@
 // What is planned for its own sake, added to a draft.
 ghost use Rattle.std.specs.Prelude.{◌≡◌, ◌++◌, ◌∷◌, ◌≤◌, [], List, IfOk, OnOk, map, length, string_bytes};
 ghost use Rattle.std.specs.List.{flat_map};
+ghost use Rattle.pn_text.specs.declared.limits.TheConstants.{PATH_LIMIT};
 ghost use Rattle.pn_text.specs.Path.{Path, path_text, SpellsParts};
 ghost use Rattle.pn_manifest.specs.Listed.{pair_of};
 ghost use Rattle.pn_layout.specs.Store.{dir_name, home_of};
@@ -96,7 +97,7 @@ fn add_package(
 fn dir_of(alloc: Global, one: &Package) -> Result<String, AllocError>
     ensures { IfOk result (λ t. string_bytes t ≡ dir_name (called one.now)) }
 {
-    dir_text(alloc, one.name.as_str(), one.version.as_str())
+    dir_text(alloc, one.id.name().as_str(), one.id.version_text())
 }
 
 // The package folder, below the managed folder.
@@ -104,7 +105,7 @@ fn home_text(alloc: Global, dir: &str, one: &Package) -> Result<String, AllocErr
     requires { dir.now ≡ dir_name (called one.now) }
     ensures { IfOk result (λ t. SpellsParts (string_bytes t) (home_of [] (called one.now))) }
 {
-    way(alloc, "", ".pnpm/", dir, one.name.as_str())
+    way(alloc, "", ".pnpm/", dir, one.id.name().as_str())
 }
 
 // The package folder itself.
@@ -146,7 +147,7 @@ fn add_file(
 ) -> Result<(), Memory>
     requires managed { draft.old.managed ≡ modules.now }
     requires home { SpellsParts home.now (home_of [] (called one.now)) }
-    requires short { length (path_text (file.now ++ one.now.folder)) ≤ 4096 }
+    requires short { length (path_text (file.now ++ one.now.folder)) ≤ PATH_LIMIT }
     ensures { OnOk result (Draws draft.old draft.new (file_leaf modules.now (called one.now) one.now.folder file.now ∷ [])) }
 {
     let source = source_of(alloc, &one.folder, file)?;
@@ -156,7 +157,7 @@ fn add_file(
 
 // A file's path in the registry.
 fn source_of(alloc: Global, folder: &AbsPath, file: &RelPath) -> Result<AbsPath, Memory>
-    requires { length (path_text (file.now ++ folder.now)) ≤ 4096 }
+    requires { length (path_text (file.now ++ folder.now)) ≤ PATH_LIMIT }
     ensures { IfOk result (λ p. p ≡ file.now ++ folder.now) }
 {
     match folder.join(alloc, file) {

@@ -14,6 +14,6 @@ mod tests;
 mod texts;
 
 pub use fault::LayoutFault;
-pub use laws::{built_law, finds_law, lands_law, sound_law};
+pub use laws::{built_law, cause_law, finds_law, lands_law, passed_law, sound_law};
 pub use packages::Package;
 pub use plan::layout;

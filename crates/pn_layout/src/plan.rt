@@ -1,5 +1,6 @@
 // The planned tree of an install.
 ghost use Rattle.std.specs.Prelude.{◌≡◌, ◌≤◌, IfOk, IfErr, OnOk, length};
+ghost use Rattle.pn_text.specs.declared.limits.TheConstants.{PATH_LIMIT};
 ghost use Rattle.pn_text.specs.Path.{Path, path_text};
 ghost use Rattle.pn_fs.specs.Tree.{Entry, Tree};
 ghost use Rattle.pn_node.specs.Plan.{InBuild};
@@ -31,7 +32,7 @@ pub fn layout(
     requires packages { AreSound packages.now }
     ensures build { IfOk result (λ planned. (r : Tree) → FilesStand r packages.now → IsLaidOut r (plan_of r modules.now direct.now packages.now) planned) }
     ensures closed { IfOk result (IsClosed modules.now packages.now) }
-    ensures short { OnOk result ((r : Tree) (q : Path) (e : Entry) → InBuild (plan_of r modules.now direct.now packages.now) q e → length (path_text q) ≤ 4096) }
+    ensures short { OnOk result ((r : Tree) (q : Path) (e : Entry) → InBuild (plan_of r modules.now direct.now packages.now) q e → length (path_text q) ≤ PATH_LIMIT) }
     ensures refused { IfErr result (LayoutRefused modules.now direct.now packages.now) }
 {
     let draft = draft_of(alloc, modules, direct, packages)?;

@@ -1,8 +1,10 @@
 // Layouts of a few packages.
 ghost use Rattle.std.specs.Prelude.{◌≡◌, ◌≢◌, ◌≤◌, ◌++◌, ◌∷◌, [], IfOk, OnOk, codes, length, true};
 ghost use Rattle.std.specs.List.{Contains};
+ghost use Rattle.pn_text.specs.Ids.{id_name};
+ghost use Rattle.pn_text.specs.declared.limits.TheConstants.{PATH_LIMIT};
 ghost use Rattle.pn_text.specs.Path.{path_text};
-ghost use Rattle.pn_manifest.specs.Exact.{is_exact};
+ghost use Rattle.pn_manifest.specs.Exact.{IsExactId};
 ghost use Rattle.pn_manifest.specs.Pairs.{Pair};
 ghost use Rattle.pn_manifest.specs.Listed.{pair_of};
 ghost use Rattle.pn_layout.specs.Sound.{AreSound, AreSoundDependencies, IsSoundPackage, IsSoundPair};
@@ -10,9 +12,9 @@ ghost use Rattle.pn_layout.specs.Sound.{AreSound, AreSoundDependencies, IsSoundP
 use crate::fault::LayoutFault;
 use crate::packages::Package;
 use crate::plan::layout;
-use pn_manifest::{Dependencies, Dependency, Manifest, is_exact_version};
+use pn_manifest::{Dependencies, Dependency, Manifest, exact_id};
 use pn_plan::{Planned, What};
-use pn_text::{AbsPath, Memory, PkgName, RelPath, Text};
+use pn_text::{AbsPath, Memory, PkgId, PkgName, RelPath, Text};
 use std::alloc::Global;
 use std::test::Fail;
 
@@ -41,16 +43,16 @@ fn check_pair(alloc: Global, one: &Dependency) -> Result<(), Fail>
     ensures { OnOk result (IsSoundPair (pair_of one.now)) }
 {
     let _ = one.name.as_str();
-    check_exact(alloc, &one.specifier)
+    let _ = check_exact(alloc, &one.name, &one.specifier)?;
+    Ok(())
 }
 
-fn check_exact(alloc: Global, version: &Text) -> Result<(), Fail>
-    ensures { OnOk result (is_exact version.now ≡ true) }
+fn check_exact(alloc: Global, name: &PkgName, version: &Text) -> Result<PkgId, Fail>
+    ensures { IfOk result (IsExactId name.now version.now) }
 {
-    if is_exact_version(alloc, version.as_str())? {
-        Ok(())
-    } else {
-        Err(Fail::from("no exact version"))
+    match exact_id(alloc, name, version)? {
+        Some(id) => Ok(id),
+        None => Err(Fail::from("no exact version")),
     }
 }
 
@@ -70,7 +72,7 @@ fn check_others(name: &PkgName, all: &Dependencies) -> Result<(), Fail>
 // The path of a package's one file.
 fn file(alloc: Global, folder: &AbsPath) -> Result<RelPath, Fail>
     ensures file { IfOk result (λ f. f ≡ codes "x.js" ∷ codes "lib" ∷ []) }
-    ensures short { IfOk result (λ f. length (path_text (f ++ folder.now)) ≤ 4096) }
+    ensures short { IfOk result (λ f. length (path_text (f ++ folder.now)) ≤ PATH_LIMIT) }
 {
     let file = RelPath::read(alloc, "lib/x.js")?;
     let whole = folder.join(alloc, &file)?;
@@ -91,20 +93,19 @@ fn alone(alloc: Global, file: RelPath) -> Result<Vec<RelPath>, Memory>
 
 // A package of version 1.0.0 with one dependency and one file.
 fn package(alloc: Global, name: &str, folder: &str, manifest: &str) -> Result<Package, Fail>
-    ensures named { IfOk result (λ p. p.name ≡ name.now) }
+    ensures named { IfOk result (λ p. id_name p.id ≡ name.now) }
     ensures sound { IfOk result IsSoundPackage }
 {
     let name = PkgName::read(alloc, name)?;
     let version = Text::of(alloc, "1.0.0")?;
-    check_exact(alloc, &version)?;
+    let id = check_exact(alloc, &name, &version)?;
     let dependencies = dependency(alloc, manifest)?;
     check_others(&name, &dependencies)?;
     let folder = AbsPath::read(alloc, folder)?;
     let file = file(alloc, &folder)?;
     let files = alone(alloc, file)?;
     Ok(Package {
-        name,
-        version,
+        id,
         dependencies,
         folder,
         files,

@@ -1,3 +1,3 @@
 pub mod Levels
 pub mod Rising
-pub mod ExactParts
+pub mod ExactIds

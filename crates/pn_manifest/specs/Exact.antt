@@ -1,7 +1,7 @@
 -- Versions without build metadata.
-use Rattle.std.specs.Prelude.{ℕ, List, [], ◌∷◌, Bool, true, false, Option, Some, None, if◌then◌else◌}
+use Rattle.std.specs.Prelude.{◌≡◌, ℕ, List, [], ◌∷◌, Bool, true, false, Option, Some, None}
 use Rattle.semver.specs.Parse.{Parts}
-use Rattle.pn_manifest.specs.Fields.{parts_text}
+use Rattle.pn_text.specs.Ids.{id_text, id_name, id_version, parts_text}
 
 abbrev pub is_nil : List ℕ → Bool
 is_nil [] = true
@@ -15,11 +15,13 @@ has_no_build (Some p) = is_nil p.4
 abbrev pub is_exact : List ℕ → Bool
 is_exact text = has_no_build (parts_text text)
 
--- a package by its name and version
-pub record Id : Type 0 where
-  pub name : List ℕ
-  pub version : List ℕ
+-- a package by its id's text
+abbrev pub Id : Type 0
+Id = List ℕ
 
--- the package that a specifier under a name means
-abbrev pub exact_id : List ℕ → List ℕ → Option Id
-exact_id name specifier = if is_exact specifier then Some (record { name = name; version = specifier }) else None
+-- This is the package of a name and an exact version.
+pub record IsExactId (name version : List ℕ) (id : Id) : Type 0 where
+  pub exact : is_exact version ≡ true
+  pub text : id ≡ id_text name version
+  pub name_is : id_name id ≡ name
+  pub version_is : id_version id ≡ version

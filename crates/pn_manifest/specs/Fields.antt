@@ -1,8 +1,8 @@
 -- The fields of a `package.json`.
-use Rattle.std.specs.Prelude.{ℕ, ◌&&◌, List, [], ◌∷◌, Bool, true, false, Option, Some, None, Result, Ok, Err, codes, option_map, is_some, if◌then◌else◌}
+use Rattle.std.specs.Prelude.{ℕ, ◌&&◌, List, [], ◌∷◌, Bool, true, false, Option, Some, None, codes, option_map, if◌then◌else◌}
 use Rattle.serde_json.specs.Data.{Data, null, boolean, number, string, array, object, no_items, item, Members, no_members, member}
 use Rattle.serde_json.specs.Find.{get}
-use Rattle.semver.specs.Parse.{version_parts, Parts}
+use Rattle.pn_text.specs.Ids.{is_version}
 use Rattle.pn_text.specs.Name.{is_name}
 use Rattle.pn_manifest.specs.Pairs.{Pair, but_own}
 
@@ -19,17 +19,6 @@ filled (Some (object ms)) = Some (object ms)
 
 abbrev pub field : List ℕ → Data → Option Data
 field key d = filled (get key d)
-
-abbrev pub ok_of : {T E : Type 0} → Result T E → Option T
-ok_of (Ok v) = Some v
-ok_of (Err e) = None
-
--- a version's numbers and texts, where the text is one
-abbrev pub parts_text : List ℕ → Option Parts
-parts_text text = ok_of (version_parts text)
-
-abbrev pub is_version : List ℕ → Bool
-is_version text = is_some (parts_text text)
 
 -- a text of the right form, or nothing
 abbrev pub is_text_field : (List ℕ → Bool) → Option Data → Bool

@@ -2,7 +2,8 @@
 use Rattle.std.specs.Prelude.{◌≡◌, ℕ, List, None, option_map, option_and_then}
 use Rattle.serde_json.specs.Data.{Data}
 use Rattle.semver.specs.Identifiers.{parts_of}
-use Rattle.pn_manifest.specs.Fields.{name_of, version_of, dependencies_of, first_wrong, first_later, has_dev, parts_text}
+use Rattle.pn_text.specs.Ids.{parts_text}
+use Rattle.pn_manifest.specs.Fields.{name_of, version_of, dependencies_of, first_wrong, first_later, has_dev}
 use Rattle.pn_manifest.specs.Text.{IsObjectText}
 use Rattle.pn_manifest.specs.declared.manifest.Manifest.{Manifest}
 

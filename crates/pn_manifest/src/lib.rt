@@ -12,6 +12,6 @@ mod map;
 mod object;
 
 pub use dependencies::{Dependencies, Dependency};
-pub use exact::{ExactId, is_exact_version};
-pub use fault::ManifestFault;
+pub use exact::exact_id;
+pub use fault::{ManifestFault, ManifestWhy};
 pub use manifest::Manifest;

@@ -2,12 +2,13 @@
 ghost use Rattle.std.specs.Prelude.{◌≡◌, OnOk, IfOk, IfErr, None, option_map, codes, option_and_then};
 ghost use Rattle.serde_json.specs.View.{view};
 ghost use Rattle.semver.specs.Identifiers.{parts_of};
+ghost use Rattle.pn_text.specs.Ids.{is_version, parts_text};
 ghost use Rattle.pn_text.specs.Name.{is_name};
-ghost use Rattle.pn_manifest.specs.Fields.{field, is_version, name_of, version_of, wrong_text, first_later, parts_text};
+ghost use Rattle.pn_manifest.specs.Fields.{field, name_of, version_of, wrong_text, first_later};
 ghost use Rattle.pn_manifest.specs.Text.{IsObjectText};
 ghost use Rattle.pn_manifest.specs.Refusals.{IsNoObject, IsWrong};
 
-use crate::fault::{ManifestFault, bad_field};
+use crate::fault::{ManifestFault, ManifestWhy, bad_field};
 use crate::fields::{field, is_filled};
 use pn_text::{NameFault, PkgName, Text};
 use semver::Version;
@@ -20,13 +21,13 @@ pub fn read_object(alloc: Global, bytes: &[u8]) -> Result<Value, ManifestFault>
     ensures fault { IfErr result (IsNoObject bytes.now) }
 {
     let Ok(text) = std::str::from_utf8(bytes) else {
-        return Err(ManifestFault::NotJson);
+        return Err(ManifestFault::Wrong(ManifestWhy::NotJson));
     };
     match Value::from_str(alloc, text) {
         Ok(value) if value.is_object() => Ok(value),
-        Ok(_) => Err(ManifestFault::NotJson),
+        Ok(_) => Err(ManifestFault::Wrong(ManifestWhy::NotJson)),
         Err(e) if e.is_memory() => Err(ManifestFault::Memory),
-        Err(_) => Err(ManifestFault::NotJson),
+        Err(_) => Err(ManifestFault::Wrong(ManifestWhy::NotJson)),
     }
 }
 

@@ -10,8 +10,9 @@ use Rattle.pn_text.specs.Path.{Path}
 use Rattle.pn_text.specs.Name.{is_name, is_name_part, name_path, modules, holds_modules}
 use Rattle.pn_fs.specs.Tree.{Entry, folder, Tree, IsTree}
 use Rattle.pn_node.specs.Plan.{Plan, IsPlanned, InBuild, managed, planned, between}
-use Rattle.pn_node.proofs.Ways.{ends_meet}
 use Rattle.pn_node.proofs.NamePaths.{Shape, single, double, shape, snoc_same, name_clean}
+use Rattle.pn_text.proofs.Bytes.{same_first}
+use Rattle.pn_text.proofs.Relatives.{ends_nested}
 
 -- the folders above an entry
 pub folder_above : (t : Tree) → IsTree t → (below p : Path) (x : List ℕ) (e : Entry) → t (below ++ x ∷ p) ≡ Some e → t p ≡ Some folder
@@ -44,7 +45,7 @@ one_front (x ∷ s) front back p q clean is e =
 
 -- The place of the last `node_modules` in a path is one.
 pub same_modules : (front back p q : Path) → holds_modules front ≡ false → holds_modules p ≡ false → front ++ modules ∷ p ≡ back ++ modules ∷ q → (front ≡ back) × (p ≡ q)
-same_modules front back p q clean_front clean_p e = elim (ends_meet front back (modules ∷ p) (modules ∷ q) e) [
+same_modules front back p q clean_front clean_p e = elim (ends_nested front back (modules ∷ p) (modules ∷ q) e) [
   | inl m ↦ let end = one_end m.0 p q clean_p m.1 in (sym (m.2 ∙ ap (λ s. front ++ s) end.0 ∙ append-nil front), end.1)
   | inr m ↦ let end = one_front m.0 front back p q clean_front m.2 m.1 in (m.2 ∙ ap (λ s. back ++ s) end.0 ∙ append-nil back, sym end.1)
 ]
@@ -56,9 +57,6 @@ no_dot b (c ∷ x) y h e dot =
     let here : c ≡ 46 = cc in
     let no : is_name_part (46 ∷ x) ≡ true = subst (λ d. IsTrue (is_name_part (d ∷ x))) here h in
     false≢true no
-
-same_first : (b c : ℕ) (x y : List ℕ) → b ∷ x ≡ c ∷ y → b ≡ c
-same_first b c x y e = cc
 
 dot_last : (n r : Path) (b : ℕ) (y : List ℕ) → Shape n → n ≡ r ++ (b ∷ y) ∷ [] → b ≡ 46 → ⊥
 dot_last _ r b y (single x h) e dot = no_dot b x y h (snoc_same [] r x (b ∷ y) e).1 dot

@@ -1,10 +1,8 @@
 -- Lemmas on the legs of a walk.
-use Rattle.std.proofs.Common.{◌≡◌, ℕ, ◌-◌, ◌<◌, List, [], ◌∷◌, ◌++◌, refl, sym, ap, ◌∙◌, Some, None, zero, suc, subst, arith}
-use Rattle.std.specs.Prelude.{Option, IfSome}
-use Rattle.std.specs.Option.{ForSome}
+use Rattle.std.proofs.Common.{◌≡◌, ℕ, ◌-◌, ◌<◌, List, [], ◌∷◌, ◌++◌, refl, sym, ap, ◌∙◌, Some, None, zero, suc, arith}
+use Rattle.std.specs.Prelude.{Option}
 use Rattle.pn_text.specs.Path.{Path}
 use Rattle.pn_fs.specs.Tree.{folder, file, link, Tree}
-use Rattle.pn_fs.specs.Seen.{Seen, Keeps}
 use Rattle.pn_node.specs.Find.{Step, into, at_entry, at_file, led, walk_on, walk}
 use Rattle.pn_node.specs.Steps.{step_of, steps_of}
 use Rattle.pn_node.specs.Legs.{Again, ends, goes, EndsAt, Goes, IsMet, met_goes, GoesFrom}
@@ -64,14 +62,3 @@ walk_nowhere links t p steps q left leg ended is = let w = some_again links t in
 
 pub walk_onward : (links : ℕ) (t : Tree) (p : Path) (steps : List Step) (q : Path) (left : List Step) (leg : Leg) → EndsAt t p steps q left leg → leg ≡ Onward → 0 < links → walk links t p steps ≡ walk (links - 1) t q left
 walk_onward links t p steps q left leg ended is some = ap (λ f. f p steps) (one_less links t some) ∙ ended (walk (links - 1) t) ∙ ap (ends (walk (links - 1) t) q left) is
-
-pub keeps_on : {old mid new : Seen} → Keeps old mid → Keeps mid new → Keeps old new
-keeps_on a b = record { tree = b.tree ∙ a.tree; touched = b.touched ∙ a.touched; later = omega (arith, a.later, b.later) }
-
-pub for_some : {T : Type 0} (P : T → Type 0) (o : Option T) → IfSome o P → ForSome o P
-for_some P None h t e = cc
-for_some P (Some u) h t e = let one : u ≡ t = cc in subst P one h
-
-pub if_some : {T : Type 0} (P : T → Type 0) (o : Option T) → ForSome o P → IfSome o P
-if_some P None h = tt
-if_some P (Some u) h = h u refl

@@ -1,5 +1,5 @@
 -- Lemmas on package names as paths.
-use Rattle.std.proofs.Common.{◌≡◌, ◌≢◌, ℕ, List, [], ◌∷◌, ◌++◌, refl, sym, ap, ◌∙◌, subst, true, false, Bool, append_assoc, inl, inr}
+use Rattle.std.proofs.Common.{◌≡◌, ◌≢◌, ℕ, List, [], ◌∷◌, ◌++◌, refl, sym, ap, ◌∙◌, subst, true, false, append_assoc, inl, inr}
 use Rattle.std.specs.Prelude.{◌||◌, ◌==◌, if◌then◌else◌, IsTrue}
 use Rattle.std.specs.Str.{bytes_eq}
 use Rattle.std.specs.Cmp.Derive.{both_true}
@@ -8,6 +8,7 @@ use Rattle.pn_text.specs.Path.{Path, tail_of, SpellsParts}
 use Rattle.pn_text.specs.Name.{is_name_part, is_name, is_reserved, name_path, modules, holds_modules}
 use Rattle.pn_text.proofs.Paths.{tail_of-spelled}
 use Rattle.pn_text.proofs.NameTexts.{name_law, name_of, part_of_name, no_scope_in_part, name_path-injective, name_cases}
+use Rattle.pn_text.proofs.Bools.{neither}
 
 -- the last elements, and what stands before them
 pub snoc_same : (xs ys : Path) (a b : List ℕ) → xs ++ a ∷ [] ≡ ys ++ b ∷ [] → (xs ≡ ys) × (a ≡ b)
@@ -58,10 +59,6 @@ no_lone_scope _ s (double x r h k) e = cc
 pub shape_filled : (p : Path) → Shape p → p ≢ []
 shape_filled _ (single x h) e = cc
 shape_filled _ (double x s h k) e = cc
-
-pub neither : (a b : Bool) → (a || b) ≡ false → (a ≡ false) × (b ≡ false)
-neither true b h = absurd (let no : true ≡ false = h in cc)
-neither false b h = (refl, h)
 
 scoped_parts : (s x : List ℕ) → IsTrue (is_name_part s) → IsTrue (is_name_part x) → SpellsParts (s ++ 47 ∷ x) (x ∷ s ∷ [])
 scoped_parts s x h k = record { good = both_true (part_of_name x k) (both_true (part_of_name s h) refl); spelled = refl }

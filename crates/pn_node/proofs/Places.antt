@@ -10,7 +10,8 @@ use Rattle.pn_text.specs.Name.{is_name, name_path, modules, holds_modules}
 use Rattle.pn_text.specs.Relative.{parent_of, IsRelative}
 use Rattle.pn_fs.specs.Tree.{Entry, folder, file, link, Tree}
 use Rattle.pn_node.specs.Plan.{Instance, Plan, beside, link_place, IsPlanned, marker, own, content, dependency, top, InBuild, managed, planned, between, IsBuilt, IsSound}
-use Rattle.pn_node.proofs.NamePaths.{snoc_same, same_name, shape, shape_filled, no_lone_scope, name_clean, neither}
+use Rattle.pn_node.proofs.NamePaths.{snoc_same, same_name, shape, shape_filled, no_lone_scope, name_clean}
+use Rattle.pn_text.proofs.Bools.{neither}
 
 -- What is planned at a path from an instance's `node_modules`.
 pub data IsPlannedIn (plan : Plan) (g : Instance) : Path → Entry → Type 0 where

@@ -1,11 +1,9 @@
 -- Lemmas on the steps that texts stand for.
-use Rattle.std.proofs.Common.{◌≡◌, ◌≢◌, ℕ, ◌<◌, List, [], ◌∷◌, ◌++◌, length, get_or, take, drop, refl, sym, ap, ◌∙◌, true, false, Some, None, suc, arith, lit<}
-use Rattle.std.specs.Prelude.{Option, Result, Ok, Err, OnOk, ◌==◌, ◌||◌, not, IsTrue}
+use Rattle.std.proofs.Common.{◌≡◌, ℕ, List, [], ◌∷◌, ◌++◌, length, take, drop, refl, sym, ap, ◌∙◌, false, Some, None, lit<}
+use Rattle.std.specs.Prelude.{Option, ◌==◌, not, IsTrue}
 use Rattle.std.specs.Option.{MatchOption}
-use Rattle.std.specs.List.{list_any}
 use Rattle.std.specs.Str.{NoCharPasses}
 use Rattle.std.specs.Str.Pattern.{RFindsChar, SplitsAroundMatch}
-use Rattle.std.proofs.lemmas.Bool.{eqb-true}
 use Rattle.std.proofs.lemmas.List.{take-append-drop}
 use Rattle.std.proofs.lemmas.Str.Pattern.{NoCharPasses-char, drop_at_char}
 use denote.Ref.{Bor}
@@ -14,17 +12,10 @@ use Rattle.pn_text.proofs.Paths.{not_true, parts_from-append, parts_from-flat}
 use Rattle.pn_node.specs.Find.{Step, text_steps, before_steps, at_file}
 use Rattle.pn_node.specs.Steps.{step_of, step_before, steps_before, steps_of, IsStepOf}
 use Rattle.pn_node.specs.declared.step.Step.{Step as TheStep}
-
--- none of the bytes is a slash
-flat_by : (bs : List ℕ) → ((i : ℕ) → i < length bs → get_or bs i 0 ≢ 47) → list_any (λ b. b == 47) bs ≡ false
-flat_by [] h = refl
-flat_by (b ∷ bs) h = elim (b == 47) as (λ c. (b == 47) ≡ c → (c || list_any (λ b. b == 47) bs) ≡ false) [
-  | true ↦ λ is. absurd (h 0 (omega arith) (eqb-true b 47 is))
-  | false ↦ λ is. flat_by bs (λ i l. h (suc i) (omega arith))
-] refl
+use Rattle.pn_text.proofs.Bytes.{no_slash}
 
 flat_text : (bs : List ℕ) → NoCharPasses (λ d. d == 47) bs → IsTrue (is_flat bs)
-flat_text bs h = ap not (flat_by bs (λ i l. NoCharPasses-char 47 bs i h (lit< tt) l))
+flat_text bs h = ap not (no_slash bs (λ i l. NoCharPasses-char 47 bs i h (lit< tt) l))
 
 -- the text is cut at its last slash
 pub last_cut : (text : List ℕ) (r : Option (Bor (List ℕ) × Bor (List ℕ))) → MatchOption r (RFindsChar 47 text None) (λ x. SplitsAroundMatch (RFindsChar 47) text x.0.now x.1.now)
@@ -66,7 +57,3 @@ goes_past p (x ∷ xs) s steps = goes_past p xs (step_of x) (s ∷ steps)
 pub file_stops : (p : Path) (xs : List TheStep) → (length xs == 0) ≡ false → at_file p (steps_of xs) ≡ None
 file_stops p [] h = cc
 file_stops p (x ∷ xs) h = goes_past p xs (step_of x) []
-
-pub on_ok : {T E P Q : Type 0} (r : Result T E) → OnOk r P → (P → Q) → OnOk r Q
-on_ok (Ok v) h f = f h
-on_ok (Err e) h f = tt

@@ -1,6 +1,6 @@
 -- Lemmas on relative paths as texts of links.
-use Rattle.std.proofs.Common.{◌≡◌, ◌≢◌, ℕ, List, [], ◌∷◌, ◌++◌, length, refl, sym, ap, ◌∙◌, subst, true, false, Bool, Some, None, zero, suc}
-use Rattle.std.specs.Prelude.{Option, if◌then◌else◌, ◌==◌, ◌&&◌, ◌||◌, IsTrue}
+use Rattle.std.proofs.Common.{◌≡◌, ◌≢◌, ℕ, List, [], ◌∷◌, ◌++◌, length, refl, sym, ap, ◌∙◌, subst, true, false, Some, None, zero, suc}
+use Rattle.std.specs.Prelude.{Option, if◌then◌else◌, ◌==◌, ◌&&◌, IsTrue}
 use Rattle.pn_text.specs.Path.{Path, is_path, is_part, is_flat, is_filled, text_below, parts_from, same_path}
 use Rattle.pn_text.proofs.Paths.{and_left, and_right, not_true, parts_from-append, parts_from-flat, same_path-Decides}
 use Rattle.pn_text.specs.Relative.{parent_of, above, dots, Leads, IsRelative}
@@ -8,6 +8,7 @@ use Rattle.pn_text.proofs.Relatives.{leads, dot_for_same}
 use Rattle.pn_fs.specs.Tree.{folder, link, Tree, IsTree}
 use Rattle.pn_node.specs.Find.{Step, into, up, at_entry, led, walk_on, walk, real, path_steps, text_steps, before_steps}
 use Rattle.pn_node.proofs.Walks.{walk_down, real_in}
+use Rattle.pn_text.proofs.Bools.{left_false}
 
 -- a filled part that is not `.` or `..` is a step into an entry
 into_part : (x : List ℕ) (steps : List Step) → is_filled x ≡ true → before_steps x steps ≡ into x ∷ steps
@@ -72,14 +73,10 @@ begins_more [] ys h = absurd h
 begins_more (a ∷ []) ys h = absurd h
 begins_more (a ∷ b ∷ xs) ys h = h
 
-neither : (a b : Bool) → (a || b) ≡ false → a ≡ false
-neither true b h = h
-neither false b h = refl
-
 begins_part : (x : List ℕ) → IsTrue (is_flat x) → x ≢ [] → Begins (47 ∷ x)
 unfolding Begins
 begins_part [] h some = some refl
-begins_part (b ∷ x) h some = neither (b == 47) _ (not_true _ h)
+begins_part (b ∷ x) h some = left_false (b == 47) _ (not_true _ h)
 
 begins : (p : Path) → good_parts p → p ≢ [] → Begins (text_below p)
 unfolding good_parts

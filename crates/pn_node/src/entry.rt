@@ -63,16 +63,6 @@ pub fn parent(alloc: Global, path: &AbsPath) -> Result<AbsPath, Memory>
 {
     match path.parent(alloc)? {
         Some(parent) => Ok(parent),
-        None => root(alloc),
-    }
-}
-
-/// The path `/`.
-pub fn root(alloc: Global) -> Result<AbsPath, Memory>
-    ensures { IfOk result (λ p. p ≡ []) }
-{
-    match AbsPath::read(alloc, "/") {
-        Ok(root) => Ok(root),
-        Err(_) => Err(Memory),
+        None => AbsPath::root(alloc),
     }
 }

@@ -8,7 +8,7 @@ ghost use Rattle.pn_node.specs.Steps.{steps_of};
 ghost use Rattle.pn_node.specs.Finds.{ends_in_modules};
 ghost use Rattle.pn_node.specs.Lookups.{IsFoundNear, LeadsIn, IsFolderOr};
 
-use crate::entry::{is_folder, root};
+use crate::entry::is_folder;
 use crate::real_path::LINKS;
 use crate::walk::Walk;
 use pn_fs::ReadFs;
@@ -116,7 +116,7 @@ fn walk_down(alloc: Global, folder: &AbsPath, name: &RelPath) -> Result<Walk, Me
     ensures at { IfOk result (λ w. w.at ≡ []) }
     ensures steps { IfOk result (λ w. steps_of w.steps.items ≡ path_steps folder.now (into modules ∷ path_steps name.now [])) }
 {
-    let mut walk = Walk::new(alloc, root(alloc)?);
+    let mut walk = Walk::new(alloc, AbsPath::root(alloc)?);
     put_in_modules(alloc, &mut walk, name)?;
     walk.put(alloc, folder.as_str())?;
     Ok(walk)

@@ -4,7 +4,6 @@ ghost use Rattle.pn_text.specs.Causes.{HasCause};
 ghost use Rattle.pn_fs.specs.Seen.{Keeps};
 ghost use Rattle.pn_node.specs.Find.{real};
 
-use crate::entry::root;
 use crate::walk::Walk;
 use pn_fs::ReadFs;
 use pn_text::{AbsPath, DevFault};
@@ -24,7 +23,7 @@ pub fn real<R: ReadFs>(
     ensures kept { Keeps (R.seen fs.old) (R.seen fs.new) }
     ensures cause { HasCause (R.seen fs.old).faults (R.seen fs.new).faults result }
 {
-    let mut walk = Walk::new(alloc, root(alloc)?);
+    let mut walk = Walk::new(alloc, AbsPath::root(alloc)?);
     walk.put(alloc, path.as_str())?;
     walk.finish(alloc, fs, LINKS)
 }

@@ -7,7 +7,7 @@ ghost use Rattle.pn_node.specs.Find.{text_steps, walk};
 ghost use Rattle.pn_node.specs.Steps.{step_of, steps_of};
 ghost use Rattle.pn_node.specs.Legs.{Goes, GoesFrom, EndsAt, EndsAtFile, EndsBehind};
 
-use crate::entry::{Met, meet, parent, root};
+use crate::entry::{Met, meet, parent};
 use crate::step::{Step, put_text};
 use pn_fs::ReadFs;
 use pn_text::{AbsPath, DevFault, Memory};
@@ -143,7 +143,7 @@ impl Walk {
     {
         match text.as_bytes() {
             [] => return Ok(Leg::Nowhere),
-            [b'/', ..] => self.at = root(alloc)?,
+            [b'/', ..] => self.at = AbsPath::root(alloc)?,
             _ => {}
         }
         self.put(alloc, text)?;

@@ -2,9 +2,10 @@
 use Rattle.std.proofs.Common.{◌≡◌, ℕ, List, [], ◌∷◌, ◌++◌, refl, sym, ap, ◌∙◌, subst, append_assoc, append-nil, true, false, Some, None}
 use Rattle.std.specs.Prelude.{Option, IsTrue, IsSome, is_some, if◌then◌else◌}
 use Rattle.pn_text.specs.Path.{Path, is_path, text_below}
+use Rattle.pn_text.proofs.Paths.{below_one}
 use Rattle.pn_plan.specs.Drawing.{is_below}
 use Rattle.pn_plan.specs.Sheets.{Sheet, marked, IsUnder, Climbs}
-use Rattle.pn_plan.proofs.Marked.{below_one, tail_path, strictly}
+use Rattle.pn_plan.proofs.Marked.{tail_path, strictly}
 
 -- Some folders above a path are passed, and this one comes next.
 pub record IsGoing (g : Sheet) (text folder : List ℕ) (fs : List (List ℕ)) : Type 0 where
@@ -19,11 +20,6 @@ pub record IsGoing (g : Sheet) (text folder : List ℕ) (fs : List (List ℕ)) :
   pub below : is_below top (part ∷ at) ≡ true
   pub marked_top : IsSome (marked g top)
   pub climbs : (more : List (List ℕ)) → Climbs g (part ∷ at) more → Climbs g path (fs ++ more)
-
--- a text of parts begins with a slash
-pub begins : (x : List ℕ) (p : Path) → (rest : List ℕ) × (text_below (x ∷ p) ≡ 47 ∷ rest)
-begins x [] = (x, refl)
-begins x (y ∷ p) = let b = begins y p in (b.0 ++ 47 ∷ x, ap (λ t. t ++ 47 ∷ x) b.1)
 
 -- a path below another one has a part and a folder
 pub has_part : (top path : Path) → is_below top path ≡ true → (x : List ℕ) × (p : Path) × (path ≡ x ∷ p)

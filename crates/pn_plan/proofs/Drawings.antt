@@ -1,20 +1,20 @@
 -- Lemmas on the drawing that a draft's marks show.
-use Rattle.std.proofs.Common.{◌≡◌, ℕ, ◌⊎◌, inl, List, [], ◌∷◌, ◌++◌, refl, sym, ap, ◌∙◌, subst, append_assoc, append-nil, Bool, true, false, Some, None}
+use Rattle.std.proofs.Common.{◌≡◌, ℕ, ◌⊎◌, inl, List, [], ◌∷◌, ◌++◌, refl, sym, ap, ◌∙◌, subst, Bool, true, false, Some, None}
 use Rattle.std.specs.Prelude.{Option, IsTrue, IsSome, is_some, String, string_bytes, if◌then◌else◌}
 use Rattle.std.specs.Map.{update, lookup}
 use Rattle.std.specs.Str.{bytes_eq}
 use Rattle.std.specs.BTreeMap.{BTreeMap, is_at}
 use Rattle.std.proofs.lemmas.Map.Text.{is_eq-slice_cmp, text_cmp}
 use Rattle.std.proofs.lemmas.Slice.Eq.{bytes_eq-Decides}
-use Rattle.std.specs.Cmp.Derive.{both_true}
-use Rattle.pn_text.specs.Path.{Path, same_path, is_part, is_path, text_below, SpellsParts}
-use Rattle.pn_text.proofs.Paths.{same_path-Decides, and_left, and_right}
+use Rattle.pn_text.specs.Path.{Path, same_path, is_path, text_below, SpellsParts}
+use Rattle.pn_text.proofs.Paths.{same_path-Decides, same_path_refl}
+use Rattle.pn_text.proofs.Bools.{or_right}
+use Rattle.pn_text.proofs.Joins.{text_below-append, is_path-append}
 use Rattle.pn_plan.specs.declared.planned.What.{What}
 use Rattle.pn_plan.specs.declared.planned.What.TheVariants.{Folder}
 use Rattle.pn_plan.specs.Drawing.{Drawing, mark_at, drawn, bare, is_below, is_within, with_leaf, IsPart}
 use Rattle.pn_plan.specs.Sheets.{Sheet, marked, sheet, texts, IsWhole, IsUnder, Draws, DrawsPart}
-use Rattle.pn_plan.proofs.Raising.{or_true}
-use Rattle.pn_plan.proofs.Marked.{marked_update, same_path_refl}
+use Rattle.pn_plan.proofs.Marked.{marked_update}
 
 -- the entries under their texts are looked up like the map's
 texts_lookup : {A : Type 0} (es : List (String A × What)) (text : List ℕ) → mark_at (texts es) text ≡ lookup (is_at (text_cmp text)) es
@@ -72,18 +72,9 @@ shows_part m old new d p w is h =
     (subst (λ (f : Path → Option What). IsPart f (with_leaf m f p w) (drawn (record { managed = m; marks = texts new.entries }))) (λ i r. sym (drawn_marks m old r) i)
     (subst (IsPart (marked (sheet old)) (with_leaf m (marked (sheet old)) p w)) (λ i r. sym (drawn_marks m new r) i) h.drawn))
 
--- the text of a path below a folder
-text_below-append : (q p : Path) → text_below (q ++ p) ≡ text_below p ++ text_below q
-text_below-append [] p = sym (append-nil (text_below p))
-text_below-append (x ∷ q) p = ap (λ t. t ++ 47 ∷ x) (text_below-append q p) ∙ append_assoc (text_below p) (text_below q) (47 ∷ x)
-
-is_path-append : (q p : Path) → IsTrue (is_path q) → IsTrue (is_path p) → IsTrue (is_path (q ++ p))
-is_path-append [] p h k = k
-is_path-append (x ∷ q) p h k = both_true (and_left (is_part x) (is_path q) h) (is_path-append q p (and_right (is_part x) (is_path q) h) k)
-
 below_append : (m folder t : Path) (x : List ℕ) → is_within m folder ≡ true → is_below m (x ∷ (t ++ folder)) ≡ true
 below_append m folder [] x h = h
-below_append m folder (y ∷ t) x h = or_true (same_path (y ∷ (t ++ folder)) m) (is_below m (y ∷ (t ++ folder))) (below_append m folder t y h)
+below_append m folder (y ∷ t) x h = or_right (same_path (y ∷ (t ++ folder)) m) (is_below m (y ∷ (t ++ folder))) (below_append m folder t y h)
 
 -- where a tail's text is, once the folder's and a slash stand before it
 pub record IsPlaced (m p : Path) (text : List ℕ) : Type 0 where

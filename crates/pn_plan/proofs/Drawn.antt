@@ -1,6 +1,6 @@
 -- Lemmas on what drawing one path makes of a sheet.
-use Rattle.std.proofs.Common.{◌≡◌, ℕ, List, [], ◌∷◌, ◌++◌, sym, ap, ◌∙◌, subst, true, Some, Ok, Err}
-use Rattle.std.specs.Prelude.{Result, OnOk, OnErr, IsTrue}
+use Rattle.std.proofs.Common.{◌≡◌, ℕ, List, [], ◌∷◌, ◌++◌, sym, ap, ◌∙◌, subst, true, Some}
+use Rattle.std.specs.Prelude.{IsTrue}
 use Rattle.std.specs.Map.{update}
 use Rattle.std.specs.Str.{bytes_eq}
 use Rattle.pn_text.specs.Path.{Path, is_path, text_below}
@@ -9,18 +9,6 @@ use Rattle.pn_plan.specs.Drawing.{is_below}
 use Rattle.pn_plan.specs.Sheets.{Sheet, IsWhole, with_folders, Climbs, Draws, DrawsPart}
 use Rattle.pn_plan.proofs.Marked.{tail_path}
 use Rattle.pn_plan.proofs.Raising.{IsRaised, raised, part_raised, part_drawn, leaf_drawn}
-
-pub on_ok : {T E P Q : Type 0} (r : Result T E) → (P → Q) → OnOk r P → OnOk r Q
-on_ok (Ok v) f h = f h
-on_ok (Err e) f h = tt
-
-pub on_err : {T E P Q : Type 0} (r : Result T E) → (P → Q) → OnErr r P → OnErr r Q
-on_err (Ok v) f h = tt
-on_err (Err e) f h = f h
-
-pub any_err : {T E P : Type 0} (r : Result T E) → P → OnErr r P
-any_err (Ok v) h = tt
-any_err (Err e) h = h
 
 pub draws : (g h new : Sheet) (text : List ℕ) (fs : List (List ℕ)) (w : What) → ((p : Path) → IsTrue (is_path p) → text ≡ text_below p → Climbs g p fs) → h ≡ with_folders g fs
     → ((cs : List ℕ) → new cs ≡ update bytes_eq h text (Some w) cs) → (m p : Path) → IsWhole m g → IsTrue (is_path p) → text ≡ text_below p → is_below m p ≡ true → Draws m p w g new

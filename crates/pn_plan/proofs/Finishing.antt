@@ -1,5 +1,5 @@
 -- Lemmas on marks that become entries one by one.
-use Rattle.std.proofs.Common.{◌≡◌, ℕ, zero, suc, ◌+◌, ◌<◌, ◌≤◌, ◌⊎◌, inl, inr, List, [], ◌∷◌, ◌++◌, map, length, get_or, refl, sym, ap, ◌∙◌, subst, append_assoc, arith, true, false, Some}
+use Rattle.std.proofs.Common.{◌≡◌, ℕ, ◌≤◌, inl, inr, List, [], ◌∷◌, ◌++◌, length, refl, sym, ap, ◌∙◌, subst, append_assoc, arith, true, false, Some}
 use Rattle.std.specs.Prelude.{IsTrue, is_some, String, string_bytes, if◌then◌else◌}
 use Rattle.std.specs.List.{Contains}
 use Rattle.std.specs.Map.{lookup}
@@ -9,21 +9,13 @@ use Rattle.std.proofs.lemmas.List.Elements.{Contains-push_cases}
 use Rattle.std.proofs.lemmas.Map.Text.{is_eq-slice_cmp, text_cmp}
 use Rattle.std.proofs.lemmas.Slice.Eq.{bytes_eq-Decides}
 use Rattle.pn_text.specs.Path.{Path, is_path, text_below}
+use Rattle.pn_text.proofs.Members.{from_map, to_map}
 use Rattle.pn_plan.specs.declared.planned.What.{What}
 use Rattle.pn_plan.specs.declared.planned.Planned.{Planned}
 use Rattle.pn_plan.specs.declared.fault.DraftFault.{DraftFault}
 use Rattle.pn_plan.specs.declared.fault.DraftFault.TheVariants.{TooLong, Memory}
 use Rattle.pn_plan.specs.Sheets.{sheet, texts, IsWhole}
 use Rattle.pn_plan.specs.Finished.{IsPathRefused, placed, Finishes, FinishRefused}
-
-pub contains_tail : {X : Type 0} (y : X) (xs : List X) (x : X) → Contains xs x → Contains (y ∷ xs) x
-contains_tail y xs x h = (h.0 + 1, omega (arith, h.1), let s : h.0 + 1 ≡ suc h.0 = omega arith in ap (λ k. get_or (y ∷ xs) k x) s ∙ h.2)
-
-pub Contains-cons_cases : {X : Type 0} (y : X) (xs : List X) (x : X) → Contains (y ∷ xs) x → (y ≡ x) ⊎ Contains xs x
-Contains-cons_cases y xs x h = at_place h.0 h.1 h.2 where
-  at_place : (k : ℕ) → k < length (y ∷ xs) → get_or (y ∷ xs) k x ≡ x → (y ≡ x) ⊎ Contains xs x
-  at_place zero l e = inl e
-  at_place (suc k) l e = inr (k, omega arith, e)
 
 -- the first marks are entries
 pub record IsPartDone {A : Type 0} (marks left : List (String A × What)) (entries : List Planned) : Type 0 where
@@ -77,26 +69,11 @@ one_more {A} marks left rest e entries new p h is push good spelled short what =
   });
 }
 
--- an element of a mapped list comes from one
-pub from_mapped : {X Y : Type 0} (f : X → Y) (xs : List X) (y : Y) → Contains (map f xs) y → (x : X) × Contains xs x × (f x ≡ y)
-from_mapped f [] y h = absurd (omega (arith, h.1))
-from_mapped f (x ∷ xs) y h = elim (Contains-cons_cases (f x) (map f xs) y h) [
-  | inl e ↦ (x, (0, omega arith, refl), e)
-  | inr k ↦ let r = from_mapped f xs y k in (r.0, contains_tail x xs r.0 r.1, r.2)
-]
-
-pub into_mapped : {X Y : Type 0} (f : X → Y) (xs : List X) (x : X) → Contains xs x → Contains (map f xs) (f x)
-into_mapped f [] x h = absurd (omega (arith, h.1))
-into_mapped f (y ∷ xs) x h = elim (Contains-cons_cases y xs x h) [
-  | inl e ↦ (0, omega arith, ap f e)
-  | inr k ↦ contains_tail (f y) (map f xs) (f x) (into_mapped f xs x k)
-]
-
 all_short : {A : Type 0} (done : List (String A × What)) (entries : List Planned) → Finishes done entries → (e : String A × What) → Contains done e → length (string_bytes e.0) ≤ 4096
 all_short {A} done entries h e k =
     let t : List ℕ × What = (string_bytes e.0, e.1) in
-    let m : Contains (placed entries) t = subst (λ l. Contains l t) (sym h.same) (into_mapped (λ (x : String A × What). let p : List ℕ × What = (string_bytes x.0, x.1) in p) done e k) in
-    let r = from_mapped (λ (x : Planned). let p : List ℕ × What = (text_below x.path, x.what) in p) entries t m in
+    let m : Contains (placed entries) t = subst (λ l. Contains l t) (sym h.same) (to_map (λ (x : String A × What). let p : List ℕ × What = (string_bytes x.0, x.1) in p) done e k) in
+    let r = from_map (λ (x : Planned). let p : List ℕ × What = (text_below x.path, x.what) in p) entries t m in
     omega (arith, ap (λ (p : List ℕ × What). length p.0) r.2, h.short r.0 r.1)
 
 -- the first mark that is refused

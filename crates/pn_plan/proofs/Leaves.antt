@@ -5,12 +5,11 @@ use Rattle.std.specs.List.{Contains}
 use Rattle.std.proofs.lemmas.List.Elements.{Contains-append_left, Contains-push, Contains-push_cases}
 use Rattle.std.specs.Cmp.Derive.{both_true}
 use Rattle.pn_text.specs.Path.{Path, same_path}
-use Rattle.pn_text.proofs.Paths.{same_path-Decides, and_left, and_right}
+use Rattle.pn_text.proofs.Paths.{same_path-Decides, and_left, and_right, same_path_refl}
 use Rattle.pn_plan.specs.declared.planned.What.{What}
 use Rattle.pn_plan.specs.declared.planned.What.TheVariants.{Folder}
 use Rattle.pn_plan.specs.Drawing.{is_below, is_within, or_else, bare, with_leaf}
 use Rattle.pn_plan.specs.Entries.{with_leaves, drawing, IsEntry, top, leaf, between, AreLeaves}
-use Rattle.pn_plan.proofs.Marked.{same_path_refl}
 use Rattle.pn_plan.proofs.Raising.{within_length}
 
 -- a drawing has exactly the entries of these leaves

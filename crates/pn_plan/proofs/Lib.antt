@@ -4,7 +4,7 @@ pub mod Raising
 pub mod Drawn
 pub mod Drawings
 pub mod Finishing
-pub mod Texts
+pub mod BadPartLemmas
 pub mod Orders
 pub mod Outcome
 pub mod Writable

@@ -1,22 +1,15 @@
 -- Lemmas on what is marked at a path.
-use Rattle.std.proofs.Common.{◌≡◌, ℕ, ◌⊎◌, inl, inr, List, [], ◌∷◌, refl, sym, ap, ◌∙◌, true, false, Some, None}
+use Rattle.std.proofs.Common.{◌≡◌, ℕ, ◌⊎◌, inl, inr, List, ◌∷◌, refl, sym, ap, ◌∙◌, true, false, Some, None}
 use Rattle.std.specs.Prelude.{IsTrue, IsSome, is_some, ◌||◌, if◌then◌else◌}
 use Rattle.std.specs.Map.{update}
 use Rattle.std.specs.Str.{bytes_eq}
 use Rattle.std.proofs.lemmas.Slice.Eq.{bytes_eq-Decides}
 use Rattle.std.specs.Bool.{one_answer}
-use Rattle.pn_text.specs.Path.{Path, same_path, is_part, is_path, text_below, parts_from}
-use Rattle.pn_text.proofs.Paths.{same_path-Decides, parts_from-text_below, and_right}
+use Rattle.pn_text.specs.Path.{Path, same_path, is_part, is_path, text_below}
+use Rattle.pn_text.proofs.Paths.{same_path-Decides, and_right, below_one}
 use Rattle.pn_plan.specs.declared.planned.What.{What}
 use Rattle.pn_plan.specs.Drawing.{is_below, is_within}
 use Rattle.pn_plan.specs.Sheets.{Sheet, marked}
-
--- a text of parts is one path's
-pub below_one : (p q : Path) → IsTrue (is_path p) → IsTrue (is_path q) → text_below p ≡ text_below q → p ≡ q
-below_one p q h k e = sym (parts_from-text_below p h) ∙ ap (λ t. parts_from [] t) e ∙ parts_from-text_below q k
-
-pub same_path_refl : (p : Path) → same_path p p ≡ true
-same_path_refl p = (same_path-Decides p p).1 refl
 
 same_below : (p q : Path) → IsTrue (is_path p) → IsTrue (is_path q) → bytes_eq (text_below p) (text_below q) ≡ same_path p q
 same_below p q h k = one_answer {P = p ≡ q} _ _ ((λ e. below_one p q h k ((bytes_eq-Decides (text_below p) (text_below q)).0 e)), (λ e. (bytes_eq-Decides (text_below p) (text_below q)).1 (ap text_below e))) (same_path-Decides p q)

@@ -7,32 +7,25 @@ use Rattle.std.specs.Map.{keys_of}
 use Rattle.std.specs.Str.{bytes_eq}
 use Rattle.std.specs.String.{string_cmp}
 use Rattle.std.specs.Cmp.Lexicographic.{slice_cmp}
-use Rattle.std.specs.Ordering.{nat_cmp, ordering_reverse}
+use Rattle.std.specs.Ordering.{nat_cmp}
 use Rattle.std.specs.declared.cmp.Ordering.TheVariants.{Less, Greater}
-use Rattle.std.proofs.lemmas.Cmp.{nat_list_cmp_total}
 use Rattle.std.proofs.lemmas.Slice.Eq.{bytes_eq-Decides}
 use Rattle.pn_text.specs.Path.{Path, is_path, text_below, path_text}
+use Rattle.pn_text.proofs.Members.{in_cons, there}
+use Rattle.pn_text.proofs.Joins.{below_begins}
+use Rattle.pn_text.proofs.Orders.{not_before_self}
 use Rattle.pn_plan.specs.declared.planned.What.{What}
 use Rattle.pn_plan.specs.declared.planned.Planned.{Planned}
 use Rattle.pn_plan.specs.Plan.{IsRising}
 use Rattle.pn_plan.specs.Drawing.{mark_at}
 use Rattle.pn_plan.specs.Sheets.{texts}
 use Rattle.pn_plan.specs.Finished.{placed}
-use Rattle.pn_plan.proofs.Climbing.{begins}
-use Rattle.pn_plan.proofs.Finishing.{contains_tail, Contains-cons_cases}
-
--- a text is not before itself, and two texts are not before each other
-pub not_before_self : (t : List ℕ) → slice_cmp nat_cmp t t ≡ Less → ⊥
-not_before_self t h = let clash : Less ≡ Greater = sym h ∙ nat_list_cmp_total.antisymm t t ∙ ap ordering_reverse h in cc
-
-pub not_both_before : (s t : List ℕ) → slice_cmp nat_cmp s t ≡ Less → slice_cmp nat_cmp t s ≡ Less → ⊥
-not_both_before s t h k = not_before_self s (nat_list_cmp_total.trans s t s h k)
 
 -- a path with a part has a text of two bytes or more
 long_text : (x : List ℕ) (p : Path) → IsTrue (is_path (x ∷ p)) → (b : ℕ) × (bs : List ℕ) × (text_below (x ∷ p) ≡ 47 ∷ b ∷ bs)
 long_text [] [] h = cc
 long_text (b ∷ bs) [] h = (b, bs, refl)
-long_text x (y ∷ p) h = at_rest (begins y p).0 (begins y p).1 where
+long_text x (y ∷ p) h = at_rest (below_begins y p).0 (below_begins y p).1 where
   at_rest : (rest : List ℕ) → text_below (y ∷ p) ≡ 47 ∷ rest → (b : ℕ) × (bs : List ℕ) × (text_below (y ∷ p) ++ 47 ∷ x ≡ 47 ∷ b ∷ bs)
   at_rest [] e = (47, x, ap (λ t. t ++ 47 ∷ x) e)
   at_rest (b ∷ bs) e = (b, bs ++ 47 ∷ x, ap (λ t. t ++ 47 ∷ x) e)
@@ -41,18 +34,18 @@ long_text x (y ∷ p) h = at_rest (begins y p).0 (begins y p).1 where
 pub text_order : (p q : Path) → IsTrue (is_path q) → slice_cmp nat_cmp (text_below p) (text_below q) ≡ Less → slice_cmp nat_cmp (path_text p) (path_text q) ≡ Less
 text_order [] [] good h = absurd (not_before_self [] h)
 text_order [] (y ∷ q) good h = let l = long_text y q good in ap (slice_cmp nat_cmp (47 ∷ [])) l.2
-text_order (x ∷ p) [] good h = absurd (let clash : Greater ≡ Less = sym (ap (λ t. slice_cmp nat_cmp t []) (begins x p).1) ∙ h in cc)
+text_order (x ∷ p) [] good h = absurd (let clash : Greater ≡ Less = sym (ap (λ t. slice_cmp nat_cmp t []) (below_begins x p).1) ∙ h in cc)
 text_order (x ∷ p) (y ∷ q) good h = h
 
 all_rising : (p : Path) (es : List Planned) → ((e : Planned) → Contains es e → IsTrue (is_path e.path)) → AllByRecursion (λ t. slice_cmp nat_cmp (text_below p) t ≡ Less) (keys_of (placed es))
     → AllByRecursion (λ t. slice_cmp nat_cmp (path_text p) t ≡ Less) (map (λ e. path_text e.path) es)
 all_rising p [] good h = tt
-all_rising p (e ∷ es) good h = (text_order p e.path (good e (0, omega arith, refl)) h.0, all_rising p es (λ f k. good f (contains_tail e es f k)) h.1)
+all_rising p (e ∷ es) good h = (text_order p e.path (good e (0, omega arith, refl)) h.0, all_rising p es (λ f k. good f (there e es f k)) h.1)
 
 pub rising : (es : List Planned) → ((e : Planned) → Contains es e → IsTrue (is_path e.path)) → IsStrictlySortedBy (slice_cmp nat_cmp) (keys_of (placed es)) → IsRising es
 unfolding IsStrictlySortedBy
 rising [] good h = tt
-rising (e ∷ es) good h = (all_rising e.path es (λ f k. good f (contains_tail e es f k)) h.0, rising es (λ f k. good f (contains_tail e es f k)) h.1)
+rising (e ∷ es) good h = (all_rising e.path es (λ f k. good f (there e es f k)) h.0, rising es (λ f k. good f (there e es f k)) h.1)
 
 all_texts : {A : Type 0} (k : String A) (es : List (String A × What)) → AllByRecursion (λ y. string_cmp k y ≡ Less) (keys_of es) → AllByRecursion (λ t. slice_cmp nat_cmp (string_bytes k) t ≡ Less) (keys_of (texts es))
 all_texts k [] h = tt
@@ -65,13 +58,13 @@ sorted_texts (e ∷ es) h = (all_texts e.0 es h.0, sorted_texts es h.1)
 
 all_placed : (P : List ℕ → Type 0) (es : List Planned) (e : Planned) → AllByRecursion P (keys_of (placed es)) → Contains es e → P (text_below e.path)
 all_placed P [] e h k = absurd (omega (arith, k.1))
-all_placed P (x ∷ es) e h k = elim (Contains-cons_cases x es e k) [ inl same ↦ subst (λ (y : Planned). P (text_below y.path)) same h.0 | inr more ↦ all_placed P es e h.1 more ]
+all_placed P (x ∷ es) e h k = elim (in_cons x es e k) [ inl same ↦ subst (λ (y : Planned). P (text_below y.path)) same h.0 | inr more ↦ all_placed P es e h.1 more ]
 
 -- an entry is found under its text
 pub lookup_placed : (es : List Planned) (e : Planned) → IsStrictlySortedBy (slice_cmp nat_cmp) (keys_of (placed es)) → Contains es e → mark_at (placed es) (text_below e.path) ≡ Some e.what
 unfolding IsStrictlySortedBy
 lookup_placed [] e h k = absurd (omega (arith, k.1))
-lookup_placed (x ∷ es) e h k = elim (Contains-cons_cases x es e k) [
+lookup_placed (x ∷ es) e h k = elim (in_cons x es e k) [
   | inl same ↦ subst (λ (y : Planned). mark_at (placed (x ∷ es)) (text_below y.path) ≡ Some y.what) same
       (ap (λ b. if b then Some x.what else mark_at (placed es) (text_below x.path)) ((bytes_eq-Decides (text_below x.path) (text_below x.path)).1 refl))
   | inr more ↦
@@ -87,19 +80,19 @@ pub found_placed : (es : List Planned) (text : List ℕ) (w : What) → mark_at 
 found_placed [] text w h = cc
 found_placed (x ∷ es) text w h = elim (bytes_eq text (text_below x.path)) as (λ b. bytes_eq text (text_below x.path) ≡ b → (if b then Some x.what else mark_at (placed es) text) ≡ Some w → (e : Planned) × Contains (x ∷ es) e × (text ≡ text_below e.path) × (e.what ≡ w)) [
   | true ↦ λ is h. (x, (0, omega arith, refl), (bytes_eq-Decides text (text_below x.path)).0 is, cc)
-  | false ↦ λ other h. let r = found_placed es text w h in (r.0, contains_tail x es r.0 r.1, r.2, r.3)
+  | false ↦ λ other h. let r = found_placed es text w h in (r.0, there x es r.0 r.1, r.2, r.3)
 ] refl h
 
 pub found_text : {A : Type 0} (es : List (String A × What)) (text : List ℕ) (w : What) → mark_at (texts es) text ≡ Some w → (e : String A × What) × Contains es e × (text ≡ string_bytes e.0)
 found_text [] text w h = cc
 found_text {A} (x ∷ es) text w h = elim (bytes_eq text (string_bytes x.0)) as (λ b. bytes_eq text (string_bytes x.0) ≡ b → (if b then Some x.1 else mark_at (texts es) text) ≡ Some w → (e : String A × What) × Contains (x ∷ es) e × (text ≡ string_bytes e.0)) [
   | true ↦ λ is h. (x, (0, omega arith, refl), (bytes_eq-Decides text (string_bytes x.0)).0 is)
-  | false ↦ λ other h. let r = found_text es text w h in (r.0, contains_tail x es r.0 r.1, r.2)
+  | false ↦ λ other h. let r = found_text es text w h in (r.0, there x es r.0 r.1, r.2)
 ] refl h
 
 all_keys : {A : Type 0} (P : String A → Type 0) (es : List (String A × What)) (e : String A × What) → AllByRecursion P (keys_of es) → Contains es e → P e.0
 all_keys P [] e h k = absurd (omega (arith, k.1))
-all_keys {A} P (x ∷ es) e h k = elim (Contains-cons_cases x es e k) [ inl same ↦ subst (λ (y : String A × What). P y.0) same h.0 | inr more ↦ all_keys P es e h.1 more ]
+all_keys {A} P (x ∷ es) e h k = elim (in_cons x es e k) [ inl same ↦ subst (λ (y : String A × What). P y.0) same h.0 | inr more ↦ all_keys P es e h.1 more ]
 
 -- a key is before those behind it
 pub before_later : {A : Type 0} (before : List (String A × What)) (e : String A × What) (after : List (String A × What)) (f : String A × What) → IsStrictlySortedBy string_cmp (keys_of (before ++ e ∷ after)) → Contains after f

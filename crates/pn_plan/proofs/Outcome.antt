@@ -11,6 +11,9 @@ use Rattle.std.specs.Ordering.{nat_cmp}
 use Rattle.std.specs.declared.cmp.Ordering.TheVariants.{Less}
 use Rattle.std.proofs.lemmas.List.Elements.{Contains-append_cases}
 use Rattle.pn_text.specs.Path.{Path, is_path, text_below, path_text}
+use Rattle.pn_text.proofs.Members.{in_cons}
+use Rattle.pn_text.proofs.Paths.{below_one}
+use Rattle.pn_text.proofs.Orders.{not_before_self, not_both_before}
 use Rattle.pn_plan.specs.declared.planned.What.{What}
 use Rattle.pn_plan.specs.declared.planned.Planned.{Planned}
 use Rattle.pn_plan.specs.declared.fault.DraftFault.{DraftFault}
@@ -19,11 +22,10 @@ use Rattle.pn_plan.specs.Plan.{IsRising, Plans}
 use Rattle.pn_plan.specs.Drawing.{Drawing, mark_at, drawn}
 use Rattle.pn_plan.specs.Sheets.{sheet, texts, IsWhole}
 use Rattle.pn_plan.specs.Finished.{Finishes, IsFirstLongMark, FinishRefused, DraftRefused}
-use Rattle.pn_plan.proofs.Marked.{below_one}
 use Rattle.pn_plan.proofs.Climbing.{marked_at}
 use Rattle.pn_plan.proofs.Drawings.{drawn_marks}
-use Rattle.pn_plan.proofs.Finishing.{found, Contains-cons_cases}
-use Rattle.pn_plan.proofs.Orders.{rising, sorted_texts, lookup_placed, found_placed, found_text, before_later, not_before_self, not_both_before}
+use Rattle.pn_plan.proofs.Finishing.{found}
+use Rattle.pn_plan.proofs.Orders.{rising, sorted_texts, lookup_placed, found_placed, found_text, before_later}
 
 pub rises : {A : Type 0} (marks : List (String A × What)) (es : List Planned) → Finishes marks es → IsStrictlySortedBy string_cmp (keys_of marks) → IsRising es
 rises marks es h ordered = rising es h.good (subst (λ l. IsStrictlySortedBy (slice_cmp nat_cmp) (keys_of l)) (sym h.same) (sorted_texts marks ordered))
@@ -79,7 +81,7 @@ first_short {A} m marks n h ordered (x ∷ r) v d before =
     let earlier : slice_cmp nat_cmp (string_bytes f.0.0) (string_bytes h.mark.0) ≡ Less = ap (λ t. slice_cmp nat_cmp t (string_bytes h.mark.0)) (sym f.2) ∙ before in
     elim (Contains-append_cases h.before (h.mark ∷ h.after) f.0 (subst (λ l. Contains l f.0) h.split f.1)) [
       | inl front ↦ omega (arith, ap length f.2, h.first f.0 front)
-      | inr back ↦ elim (Contains-cons_cases h.mark h.after f.0 back) [
+      | inr back ↦ elim (in_cons h.mark h.after f.0 back) [
         | inl same ↦ absurd (not_before_self (string_bytes f.0.0) (subst (λ (e : String A × What). slice_cmp nat_cmp (string_bytes f.0.0) (string_bytes e.0) ≡ Less) same earlier))
         | inr later ↦ absurd (not_both_before (string_bytes h.mark.0) (string_bytes f.0.0) (before_later h.before h.mark h.after f.0 (subst (λ l. IsStrictlySortedBy string_cmp (keys_of l)) h.split ordered) later) earlier)
       ]

@@ -1,17 +1,18 @@
 -- Lemmas on the folders that are marked down to a path, and on the path itself.
-use Rattle.std.proofs.Common.{◌≡◌, ℕ, ◌≤◌, ◌⊎◌, inl, inr, List, [], ◌∷◌, ◌++◌, length, refl, sym, ap, ◌∙◌, subst, arith, Bool, true, false, Some, None}
+use Rattle.std.proofs.Common.{◌≡◌, ℕ, ◌≤◌, ◌⊎◌, inl, inr, List, [], ◌∷◌, ◌++◌, length, refl, sym, ap, ◌∙◌, subst, arith, true, false, Some, None}
 use Rattle.std.specs.Prelude.{Option, IsTrue, IsSome, is_some, ◌&&◌, ◌||◌, if◌then◌else◌}
 use Rattle.std.specs.Map.{update}
 use Rattle.std.specs.Str.{bytes_eq}
 use Rattle.std.proofs.lemmas.Slice.Eq.{bytes_eq-Decides}
 use Rattle.std.specs.Cmp.Derive.{both_true}
 use Rattle.pn_text.specs.Path.{Path, same_path, is_path, text_below}
-use Rattle.pn_text.proofs.Paths.{same_path-Decides, and_left, and_right}
+use Rattle.pn_text.proofs.Paths.{same_path-Decides, and_left, and_right, same_path_refl}
+use Rattle.pn_text.proofs.Bools.{or_right}
 use Rattle.pn_plan.specs.declared.planned.What.{What}
 use Rattle.pn_plan.specs.declared.planned.What.TheVariants.{Folder}
 use Rattle.pn_plan.specs.Drawing.{is_below, is_within, or_else, with_leaf, IsPart}
 use Rattle.pn_plan.specs.Sheets.{Sheet, marked, IsWhole, with_folders, Climbs}
-use Rattle.pn_plan.proofs.Marked.{marked_update, same_path_refl, tail_path, strictly, within_cases}
+use Rattle.pn_plan.proofs.Marked.{marked_update, tail_path, strictly, within_cases}
 
 -- what is marked once the folders from v up to m are
 abbrev pub with_way : Sheet → Path → Path → Path → Option What
@@ -108,16 +109,12 @@ pub record IsPartWay (m : Path) (g : Sheet) (v : Path) (h : Sheet) : Type 0 wher
   pub on : (q : Path) → is_within q at ≡ true → is_within q v ≡ true
   pub raised : IsRaised m g at h
 
-pub or_true : (a b : Bool) → b ≡ true → (a || b) ≡ true
-or_true true b h = refl
-or_true false b h = h
-
 pub part_raised : (m : Path) (g : Sheet) (x : List ℕ) (v : Path) (before after : List (List ℕ)) → IsWhole m g → IsTrue (is_path v) → is_within m v ≡ true → Climbs g (x ∷ v) (before ++ after) → IsPartWay m g v (with_folders g after)
 part_raised m g x v [] after whole good down climbs = record { at = v; on = λ q h. h; raised = raised m g x v after whole good down climbs }
 part_raised m g x [] (b ∷ before) after whole good down climbs = absurd (climbs.2)
 part_raised m g x (y ∷ v) (b ∷ before) after whole good down climbs =
     let p = part_raised m g y v before after whole (tail_path y v good) (strictly g m (y ∷ v) whole.root climbs.0 down) climbs.2 in
-    record { at = p.at; on = λ q h. or_true (same_path (y ∷ v) q) (is_within q v) (p.on q h); raised = p.raised }
+    record { at = p.at; on = λ q h. or_right (same_path (y ∷ v) q) (is_within q v) (p.on q h); raised = p.raised }
 
 -- so far each path is as before or as it will be
 part_at : (m : Path) (g : Sheet) (x : List ℕ) (v at : Path) (w : What) (q : Path) → ((q : Path) → is_within q at ≡ true → is_within q v ≡ true)

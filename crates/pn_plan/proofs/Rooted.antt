@@ -3,6 +3,7 @@ use Rattle.std.proofs.Common.{◌≡◌, ◌⊎◌, inl, inr, ℕ, List, [], ◌
 use Rattle.std.specs.Prelude.{◌↔◌}
 use Rattle.std.specs.List.{Contains}
 use Rattle.pn_text.specs.Path.{Path, same_path}
+use Rattle.pn_text.proofs.Bools.{or_right}
 use Rattle.pn_fs.specs.Tree.{Tree, IsFree}
 use Rattle.pn_plan.specs.declared.planned.What.{What}
 use Rattle.pn_plan.specs.declared.planned.What.TheVariants.{Folder}
@@ -11,19 +12,19 @@ use Rattle.pn_plan.specs.Drawing.{is_below, is_within}
 use Rattle.pn_plan.specs.Entries.{IsEntry, top, leaf, between, AreLeaves}
 use Rattle.pn_plan.specs.Plan.{Plans, IsRooted}
 use Rattle.pn_plan.proofs.Marked.{within_cases}
-use Rattle.pn_plan.proofs.Raising.{within_self, or_true}
+use Rattle.pn_plan.proofs.Raising.{within_self}
 
 -- what is below an entry is below its folder
 pub below_folder : (x : List ℕ) (p r : Path) → is_below (x ∷ p) r ≡ true → is_below p r ≡ true
 below_folder x p [] h = cc
 below_folder x p (y ∷ r) h = elim (within_cases (x ∷ p) r h) [
-  | inl e ↦ subst (λ q. is_within p q ≡ true) (sym e) (or_true (same_path (x ∷ p) p) (is_below p (x ∷ p)) (within_self p))
-  | inr b ↦ or_true (same_path r p) (is_below p r) (below_folder x p r b)
+  | inl e ↦ subst (λ q. is_within p q ≡ true) (sym e) (or_right (same_path (x ∷ p) p) (is_below p (x ∷ p)) (within_self p))
+  | inr b ↦ or_right (same_path r p) (is_below p r) (below_folder x p r b)
 ]
 
 entry_within : (m : Path) (leaves : List (Path × What)) (q : Path) (w : What) → AreLeaves m leaves → IsEntry m leaves q w → is_within m q ≡ true
 entry_within m leaves _ _ h top = within_self m
-entry_within m leaves _ _ h (leaf p w c) = or_true (same_path p m) (is_below m p) (h.below p w c)
+entry_within m leaves _ _ h (leaf p w c) = or_right (same_path p m) (is_below m p) (h.below p w c)
 entry_within m leaves _ _ h (between q p w c b i) = i
 
 -- the parent of an entry other than the folder itself is an entry too, a folder

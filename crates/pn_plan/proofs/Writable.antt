@@ -11,6 +11,8 @@ use Rattle.std.specs.declared.cmp.Ordering.TheVariants.{Less, Equal}
 use Rattle.std.proofs.lemmas.List.Elements.{Contains-append_cases, Contains-append_right}
 use Rattle.pn_text.specs.Path.{Path, same_path, text_below, path_text}
 use Rattle.pn_text.proofs.Paths.{same_path-Decides}
+use Rattle.pn_text.proofs.Members.{in_cons, there}
+use Rattle.pn_text.proofs.Orders.{not_before_self}
 use Rattle.pn_fs.specs.Tree.{folder, Tree, IsTree, HasParent}
 use Rattle.pn_plan.specs.declared.planned.What.{What}
 use Rattle.pn_plan.specs.declared.planned.What.TheVariants.{Folder}
@@ -18,8 +20,6 @@ use Rattle.pn_plan.specs.declared.planned.Planned.{Planned}
 use Rattle.pn_plan.specs.Drawing.{is_within}
 use Rattle.pn_plan.specs.Plan.{IsRising, is_planned, Plans, HasPlannedParent, IsWritable, IsRooted}
 use Rattle.pn_plan.proofs.Marked.{within_cases}
-use Rattle.pn_plan.proofs.Finishing.{contains_tail, Contains-cons_cases}
-use Rattle.pn_plan.proofs.Orders.{not_before_self}
 
 -- below where nothing stands, nothing stands
 pub none_within : (t : Tree) → IsTree t → (m p : Path) → t m ≡ None → is_within m p ≡ true → t p ≡ None
@@ -37,7 +37,7 @@ pub planned_entry : (plan : List Planned) (q : Path) → is_planned plan q ≡ t
 planned_entry [] q h = cc
 planned_entry (e ∷ es) q h = elim (same_path e.path q) as (λ b. same_path e.path q ≡ b → (b || is_planned es q) ≡ true → (f : Planned) × Contains (e ∷ es) f × (f.path ≡ q)) [
   | true ↦ λ yes h. (e, (0, omega arith, refl), (same_path-Decides e.path q).0 yes)
-  | false ↦ λ other h. let f = planned_entry es q h in (f.0, contains_tail e es f.0 f.1, f.2)
+  | false ↦ λ other h. let f = planned_entry es q h in (f.0, there e es f.0 f.1, f.2)
 ] refl h
 
 -- a text is not before its front
@@ -52,12 +52,12 @@ not_before_parent x (y ∷ p) h = not_before_front (text_below (y ∷ p)) (47 �
 
 all_entries : (P : List ℕ → Type 0) (es : List Planned) (e : Planned) → AllByRecursion P (map (λ x. path_text x.path) es) → Contains es e → P (path_text e.path)
 all_entries P [] e h k = absurd (omega (arith, k.1))
-all_entries P (x ∷ es) e h k = elim (Contains-cons_cases x es e k) [ inl same ↦ subst (λ (y : Planned). P (path_text y.path)) same h.0 | inr more ↦ all_entries P es e h.1 more ]
+all_entries P (x ∷ es) e h k = elim (in_cons x es e k) [ inl same ↦ subst (λ (y : Planned). P (path_text y.path)) same h.0 | inr more ↦ all_entries P es e h.1 more ]
 
 before_it : (before : List Planned) (e : Planned) (after : List Planned) (f : Planned) → IsRising (before ++ e ∷ after) → Contains before f → slice_cmp nat_cmp (path_text f.path) (path_text e.path) ≡ Less
 unfolding IsStrictlySortedBy
 before_it [] e after f h k = absurd (omega (arith, k.1))
-before_it (x ∷ before) e after f h k = elim (Contains-cons_cases x before f k) [
+before_it (x ∷ before) e after f h k = elim (in_cons x before f k) [
   | inl same ↦ subst (λ (y : Planned). slice_cmp nat_cmp (path_text y.path) (path_text e.path) ≡ Less) same
       (all_entries (λ t. slice_cmp nat_cmp (path_text x.path) t ≡ Less) (before ++ e ∷ after) e h.0 (Contains-append_right before (e ∷ after) e (0, omega arith, refl)))
   | inr more ↦ before_it before e after f h.1 more
@@ -76,7 +76,7 @@ earlier before x p w after rising h =
     let f : Planned = record { path = p; what = Folder } in
     elim (Contains-append_cases before (e ∷ after) f h) [
       | inl front ↦ front
-      | inr back ↦ elim (Contains-cons_cases e after f back) [
+      | inr back ↦ elim (in_cons e after f back) [
         | inl same ↦ absurd (omega (arith, ap (λ (y : Planned). length y.path) same))
         | inr later ↦ absurd (not_before_parent x p (after_it before e after f rising later))
       ]

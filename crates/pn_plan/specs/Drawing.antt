@@ -5,6 +5,7 @@ use Rattle.std.specs.Str.{bytes_eq}
 use Rattle.std.specs.Cmp.Lexicographic.{slice_cmp}
 use Rattle.std.specs.Ordering.{nat_cmp}
 use Rattle.std.specs.declared.cmp.Ordering.TheVariants.{Less}
+use Rattle.pn_text.specs.declared.limits.TheConstants.{PATH_LIMIT}
 use Rattle.pn_text.specs.Path.{Path, same_path, is_path, text_below, path_text}
 use Rattle.pn_plan.specs.declared.planned.What.{What}
 use Rattle.pn_plan.specs.declared.planned.What.TheVariants.{Folder}
@@ -54,5 +55,5 @@ pub record IsFirstLong (d : Path → Option What) (n : ℕ) : Type 0 where
   pub what : What
   pub stands : d path ≡ Some what
   pub size : n ≡ length (path_text path)
-  pub long : 4096 < n
-  pub first : (q : Path) (w : What) → d q ≡ Some w → slice_cmp nat_cmp (path_text q) (path_text path) ≡ Less → length (path_text q) ≤ 4096
+  pub long : PATH_LIMIT < n
+  pub first : (q : Path) (w : What) → d q ≡ Some w → slice_cmp nat_cmp (path_text q) (path_text path) ≡ Less → length (path_text q) ≤ PATH_LIMIT

@@ -4,6 +4,7 @@ use Rattle.std.specs.List.{Contains, list_any}
 use Rattle.std.specs.List.Sorted.{IsStrictlySortedBy}
 use Rattle.std.specs.Cmp.Lexicographic.{slice_cmp}
 use Rattle.std.specs.Ordering.{nat_cmp}
+use Rattle.pn_text.specs.declared.limits.TheConstants.{FILE_LIMIT}
 use Rattle.pn_text.specs.Path.{Path, same_path, path_text}
 use Rattle.pn_plan.specs.Drawing.{is_within}
 use Rattle.pn_fs.specs.Tree.{IsFree, folder, file, Tree}
@@ -43,7 +44,7 @@ pub record IsWritable (t : Tree) (plan : List Planned) : Type 0 where
 pub record IsShortFile (r : Tree) (p : Path) : Type 0 where
   pub bytes : List ℕ
   pub stands : r p ≡ Some (file bytes)
-  pub short : length bytes ≤ 268435456
+  pub short : length bytes ≤ FILE_LIMIT
 
 abbrev pub CanCopy : Tree → What → Type 0
 CanCopy r Folder = Unit {0}

@@ -1,5 +1,6 @@
 // A draft of a planned tree.
 ghost use Rattle.std.specs.Prelude.{◌≡◌, ◌≤◌, ◌↔◌, ◌++◌, ◌∷◌, List, ℕ, true, Some, length, IfOk, IfErr, OnOk, OnErr, IsTrue, string_bytes};
+ghost use Rattle.pn_text.specs.declared.limits.TheConstants.{PATH_LIMIT};
 ghost use Rattle.pn_text.specs.Path.{Path, SpellsParts, is_path, path_text, text_below};
 ghost use Rattle.pn_plan.specs.declared.planned.What.{What};
 ghost use Rattle.pn_plan.specs.Plan.{Plans};
@@ -44,7 +45,7 @@ impl Draft {
     {
         let managed = managed.copy(alloc)?;
         let mut marks = BTreeMap::new(alloc);
-        match mark(alloc, &mut marks, stem(&managed), What::Folder) {
+        match mark(alloc, &mut marks, managed.stem(), What::Folder) {
             Ok(()) => Ok(Draft {
                 alloc,
                 managed,
@@ -77,7 +78,7 @@ impl Draft {
     /// 4,096 bytes.
     pub fn finish(self) -> Result<PlannedTree, DraftFault>
         ensures entries { IfOk result (λ tree. (q : Path) (w : What) → Plans tree q w ↔ (drawn self q ≡ Some w)) }
-        ensures short { OnOk result ((q : Path) (w : What) → drawn self q ≡ Some w → length (path_text q) ≤ 4096) }
+        ensures short { OnOk result ((q : Path) (w : What) → drawn self q ≡ Some w → length (path_text q) ≤ PATH_LIMIT) }
         ensures fault { IfErr result (DraftRefused self) }
     {
         let entries = entries_of(self.alloc, self.marks)?;
@@ -85,20 +86,12 @@ impl Draft {
     }
 }
 
-// The path's parts, each after a slash.
-fn stem(path: &AbsPath) -> &str
-    ensures stem { result.now ≡ text_below path.now }
-    ensures good { IsTrue (is_path path.now) }
-{
-    if path.is_root() { "" } else { path.as_str() }
-}
-
-// The same for a path below a folder.
+// A path's parts below a folder, each after a slash.
 fn text_at(alloc: Global, folder: &AbsPath, tail: &str) -> Result<String, DraftFault>
     ensures text { IfOk result (λ text. string_bytes text ≡ text_below folder.now ++ 47 ∷ tail.now) }
     ensures good { IsTrue (is_path folder.now) }
 {
-    let mut text = String::from_str(alloc, stem(folder))?;
+    let mut text = String::from_str(alloc, folder.stem())?;
     text.push_str("/")?;
     text.push_str(tail)?;
     Ok(text)

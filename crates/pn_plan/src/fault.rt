@@ -1,11 +1,14 @@
 // Why a draft gives no planned tree.
 
 use std::alloc::{AllocError, AllocFailed};
+use thiserror::Error;
 
 /// A path's text has more than 4,096 bytes, so many, or there was no memory.
-#[derive(Clone, Copy, Debug, PartialEq, Eq)]
+#[derive(Clone, Copy, Debug, PartialEq, Eq, Error)]
 pub enum DraftFault {
+    #[error("a path of {0} bytes is too long")]
     TooLong(u64),
+    #[error("out of memory")]
     Memory,
 }
 

@@ -3,6 +3,7 @@ ghost use Rattle.std.specs.Prelude.{◌≡◌, ◌<◌, ◌≤◌, ℕ, IfOk, If
 ghost use Rattle.std.specs.Map.{keys_of};
 ghost use Rattle.std.specs.List.Sorted.{IsStrictlySortedBy};
 ghost use Rattle.std.specs.String.{string_cmp};
+ghost use Rattle.pn_text.specs.declared.limits.TheConstants.{PATH_LIMIT};
 ghost use Rattle.pn_text.specs.Path.{Path, SpellsAbs, is_path, text_below};
 ghost use Rattle.pn_plan.specs.Sheets.{sheet, IsWhole};
 ghost use Rattle.pn_plan.specs.Finished.{IsPathRefused, Finishes, FinishRefused};
@@ -33,7 +34,7 @@ fn path_of(alloc: Global, text: &str) -> Result<AbsPath, DraftFault>
     requires { (q : Path) × IsTrue (is_path q) × (text.now ≡ text_below q) }
     ensures ok { IfOk result (λ p. text.now ≡ text_below p) }
     ensures good { IfOk result (λ p. IsTrue (is_path p)) }
-    ensures short { OnOk result (length text.now ≤ 4096) }
+    ensures short { OnOk result (length text.now ≤ PATH_LIMIT) }
     ensures fault { IfErr result (IsPathRefused text.now) }
 {
     if text.is_empty() {
@@ -46,7 +47,7 @@ fn path_of(alloc: Global, text: &str) -> Result<AbsPath, DraftFault>
 fn read(alloc: Global, text: &str) -> Result<AbsPath, DraftFault>
     requires { (q : Path) × SpellsAbs text.now q }
     ensures ok { IfOk result (SpellsAbs text.now) }
-    ensures short { OnOk result (length text.now ≤ 4096) }
+    ensures short { OnOk result (length text.now ≤ PATH_LIMIT) }
     ensures fault { IfErr result (IsPathRefused text.now) }
 {
     match AbsPath::read(alloc, text) {

@@ -1,8 +1,8 @@
 -- The automaton goes through each text in the form of range sets.
 use Rattle.std.proofs.Common.{◌≡◌, ℕ, suc, Bool, true, false, List, [], ◌∷◌, ◌++◌, length, Option, Some, None, refl, sym, ap, subst, ◌∙◌, arith, inl, inr, append_assoc}
-use Rattle.std.specs.Prelude.{◌==◌, ◌&&◌, ◌||◌, not, nat_le, nat_lt, ◌<◌, ◌^◌, ◌*◌, ◌+◌, ◌-◌}
+use Rattle.std.specs.Prelude.{◌==◌, ◌&&◌, not, nat_le, nat_lt, ◌<◌, ◌^◌, ◌*◌, ◌+◌, ◌-◌}
 use Rattle.std.specs.List.{list_all}
-use Rattle.std.proofs.lemmas.Bool.{cases_Bool}
+use Rattle.std.proofs.lemmas.Bool.{and_parts, cases_Bool, not-false, not-true, or_parts}
 use Rattle.std.proofs.lemmas.Bool.Decides.{nat_tests}
 use Rattle.semver.specs.Grammar.{is_identifier_byte}
 use Rattle.pn_ranges.specs.Bytes.{is_space, is_lead, is_wild, is_digit, is_stop, number_at, number_from, starts_with}
@@ -11,7 +11,6 @@ use Rattle.semver.specs.Order.{is_numeric}
 use Rattle.pn_ranges.specs.Grammar.{AreGaps, AreIdentifiers, AreSpaces, IsBuild, IsComparator, IsEnd, IsNumber, IsPart, IsPartial, IsSign, IsTail}
 use Rattle.pn_ranges.specs.Grammar as g
 use Rattle.pn_ranges.specs.Table.{Named}
-use Rattle.pn_ranges.proofs.Words.{and_left, and_right}
 use Rattle.pn_ranges.specs.Places.{Turn, State, lead, dot, whole, digits, hyphen, naught, zeros, pre, plus, build, step, part_step, end_step, whole_step, pre_step, after_step, may_end, is_digits, is_large}
 
 abbrev pub on_some : Option State → (State → Bool) → Bool
@@ -128,25 +127,9 @@ space-wild b h = grind (arith, nat_tests)
 pub space-48 : (b : ℕ) → is_space b ≡ true → (b == 48) ≡ false
 space-48 b h = grind (arith, nat_tests)
 
-pub not-no : (a : Bool) → not a ≡ false → a ≡ true
-not-no true h = refl
-not-no false h = cc h
-
-pub not-yes : (a : Bool) → not a ≡ true → a ≡ false
-not-yes true h = cc h
-not-yes false h = refl
-
-or-left : (a b : Bool) → (a || b) ≡ false → a ≡ false
-or-left true b h = cc h
-or-left false b h = refl
-
-or-right : (a b : Bool) → (a || b) ≡ false → b ≡ false
-or-right true b h = cc h
-or-right false b h = h
-
 -- where a step is none
 after-none : (e : Turn) (b : ℕ) → is_stop b ≡ false → after_step e b ≡ None
-after-none e b h = rw (or-left (is_space b) (b == 124) h, or-right (is_space b) (b == 124) h) refl
+after-none e b h = rw ((or_parts (is_space b) (b == 124) h).0, (or_parts (is_space b) (b == 124) h).1) refl
 
 whole-none : (e : Turn) (k b : ℕ) → is_digit b ≡ true → whole_step e k b ≡ None
 whole-none e k b h = rw (word-46 b (digit-word b h), digit-45 b h, word-43 b (digit-word b h)) (after-none e b (word-stop b (digit-word b h)))
@@ -168,7 +151,7 @@ from-digits : (e : Turn) (k : ℕ) (o : Option State) (text rest : List ℕ) →
     → on_some o (λ n. small (digits e k) n text && accepts n rest) ≡ true
 from-digits e k None text rest h = h
 from-digits e k (Some n) text rest h =
-    ap (λ v. v && accepts n rest) (no-large (is_digits n) (nat_le (2 ^ 64) (number_at text))) ∙ and_right (fresh n text) (accepts n rest) h
+    ap (λ v. v && accepts n rest) (no-large (is_digits n) (nat_le (2 ^ 64) (number_at text))) ∙ (and_parts (fresh n text) (accepts n rest) h).1
 
 digits-whole : (e : Turn) (k : ℕ) (text : List ℕ) → goes true (whole_step e k) text ≡ true → accepts (digits e k) text ≡ true
 digits-whole e k [] h = refl
@@ -206,12 +189,12 @@ build-after e = by-more true true (after_step e) (step (build e)) is_stop (λ h.
 
 pre-pre : (e : Turn) (text : List ℕ) → goes true (pre_step e) text ≡ true → goes true (step (pre e)) text ≡ true
 pre-pre e = by-more true true (pre_step e) (step (pre e)) (λ b. not (is_identifier_byte b)) (λ h. h)
-    (λ b h. pre-none e b (not-no (is_identifier_byte b) h)) (λ b h. rw (not-yes (is_identifier_byte b) h) refl)
+    (λ b h. pre-none e b (not-false (is_identifier_byte b) h)) (λ b h. rw (not-true (is_identifier_byte b) h) refl)
 
 naught-pre : (e : Turn) (text : List ℕ) → goes true (pre_step e) text ≡ true → goes true (step (naught e)) text ≡ true
 naught-pre e = by-more true true (pre_step e) (step (naught e)) (λ b. not (is_identifier_byte b)) (λ h. h)
-    (λ b h. pre-none e b (not-no (is_identifier_byte b) h))
-    (λ b h. let w = not-yes (is_identifier_byte b) h in rw (w, word-digit b w) refl)
+    (λ b h. pre-none e b (not-false (is_identifier_byte b) h))
+    (λ b h. let w = not-true (is_identifier_byte b) h in rw (w, word-digit b w) refl)
 
 -- parts
 part-goes : (t : List ℕ) (a : Option ℕ) → IsPart t a → (e : Turn) (k : ℕ) (rest : List ℕ) → goes true (whole_step e (suc k)) rest ≡ true
@@ -236,9 +219,9 @@ part-goes _ _ (g.number t n i low) e k rest h = number t n i low where
 one-build : (e : Turn) (x rest : List ℕ) → is_build_identifier x ≡ true → goes true (step (build e)) rest ≡ true → accepts (plus e) (x ++ rest) ≡ true
 one-build e [] rest h r = cc h
 one-build e (b ∷ x) rest h r =
-    let all = and_right (nat_lt 0 (length (b ∷ x))) (list_all is_identifier_byte (b ∷ x)) h in
-    rw (and_left (is_identifier_byte b) (list_all is_identifier_byte x) all)
-    (stays-on (build e) is_identifier_byte (λ b y. rw y refl) x rest (and_right (is_identifier_byte b) (list_all is_identifier_byte x) all) (sym (accepts-goes (build e) rest refl) ∙ r))
+    let all = (and_parts (nat_lt 0 (length (b ∷ x))) (list_all is_identifier_byte (b ∷ x)) h).1 in
+    rw (and_parts (is_identifier_byte b) (list_all is_identifier_byte x) all).0
+    (stays-on (build e) is_identifier_byte (λ b y. rw y refl) x rest (and_parts (is_identifier_byte b) (list_all is_identifier_byte x) all).1 (sym (accepts-goes (build e) rest refl) ∙ r))
 
 builds-go : (t : List ℕ) → AreIdentifiers is_build_identifier t → (e : Turn) (rest : List ℕ) → goes true (step (build e)) rest ≡ true → accepts (plus e) (t ++ rest) ≡ true
 builds-go _ (g.one x h) e rest r = one-build e x rest h r
@@ -251,8 +234,8 @@ pre-run e s rest all h = stays-on (pre e) is_identifier_byte (λ b y. rw y refl)
 zeros-go : (e : Turn) (x rest : List ℕ) → list_all is_identifier_byte x ≡ true → is_numeric x ≡ false → goes true (pre_step e) rest ≡ true → accepts (zeros e) (x ++ rest) ≡ true
 zeros-go e [] rest all n r = cc n
 zeros-go e (b ∷ x) rest all n r =
-    let word = and_left (is_identifier_byte b) (list_all is_identifier_byte x) all in
-    let more = and_right (is_identifier_byte b) (list_all is_identifier_byte x) all in
+    let word = (and_parts (is_identifier_byte b) (list_all is_identifier_byte x) all).0 in
+    let more = (and_parts (is_identifier_byte b) (list_all is_identifier_byte x) all).1 in
     elim (cases_Bool (is_digit b)) [
       | inl digit ↦ rw digit (zeros-go e x rest more (rw digit at n) r)
       | inr letter ↦ rw (word, letter) (pre-run e x rest more r)
@@ -265,7 +248,7 @@ long-number : (b c : ℕ) (x : List ℕ) → (b == 48) ≡ true → is_digit c �
 long-number b c x z d h = elim (cases_Bool (is_numeric x)) [
   | inr other ↦ other
   | inl number ↦
-      let k : not (is_numeric (b ∷ c ∷ x) && has_leading_zero (b ∷ c ∷ x)) ≡ true = and_right (is_build_identifier (b ∷ c ∷ x)) _ h in
+      let k : not (is_numeric (b ∷ c ∷ x) && has_leading_zero (b ∷ c ∷ x)) ≡ true = (and_parts (is_build_identifier (b ∷ c ∷ x)) _ h).1 in
       let all : is_numeric (b ∷ c ∷ x) ≡ true = rw (digit-48 b z, d) number in
       let led : has_leading_zero (b ∷ c ∷ x) ≡ true = rw z (grind (arith, nat_tests)) in
       absurd (let y : false ≡ true = rw (all, led) at k in cc)
@@ -275,8 +258,8 @@ naught-go : (e : Turn) (b : ℕ) (x rest : List ℕ) → (b == 48) ≡ true → 
     → goes true (pre_step e) rest ≡ true → accepts (naught e) (x ++ rest) ≡ true
 naught-go e b [] rest z h all r = sym (accepts-goes (naught e) rest refl) ∙ naught-pre e rest r
 naught-go e b (c ∷ x) rest z h all r =
-    let word = and_left (is_identifier_byte c) (list_all is_identifier_byte x) all in
-    let more = and_right (is_identifier_byte c) (list_all is_identifier_byte x) all in
+    let word = (and_parts (is_identifier_byte c) (list_all is_identifier_byte x) all).0 in
+    let more = (and_parts (is_identifier_byte c) (list_all is_identifier_byte x) all).1 in
     elim (cases_Bool (is_digit c)) [
       | inl digit ↦ rw digit (zeros-go e x rest more (long-number b c x z digit h) r)
       | inr letter ↦ rw (word, letter) (pre-run e x rest more r)
@@ -285,11 +268,11 @@ naught-go e b (c ∷ x) rest z h all r =
 one-pre : (e : Turn) (x rest : List ℕ) → is_pre_identifier x ≡ true → goes true (pre_step e) rest ≡ true → accepts (hyphen e) (x ++ rest) ≡ true
 one-pre e [] rest h r = cc h
 one-pre e (b ∷ x) rest h r =
-    let good = and_right (nat_lt 0 (length (b ∷ x))) (list_all is_identifier_byte (b ∷ x)) (and_left (is_build_identifier (b ∷ x)) _ h) in
-    let more = and_right (is_identifier_byte b) (list_all is_identifier_byte x) good in
+    let good = (and_parts (nat_lt 0 (length (b ∷ x))) (list_all is_identifier_byte (b ∷ x)) (and_parts (is_build_identifier (b ∷ x)) _ h).0).1 in
+    let more = (and_parts (is_identifier_byte b) (list_all is_identifier_byte x) good).1 in
     elim (cases_Bool (b == 48)) [
       | inl zero ↦ rw zero (naught-go e b x rest zero h more r)
-      | inr other ↦ rw (other, and_left (is_identifier_byte b) (list_all is_identifier_byte x) good) (pre-run e x rest more r)
+      | inr other ↦ rw (other, (and_parts (is_identifier_byte b) (list_all is_identifier_byte x) good).0) (pre-run e x rest more r)
     ]
 
 pres-go : (t : List ℕ) → AreIdentifiers is_pre_identifier t → (e : Turn) (rest : List ℕ) → goes true (pre_step e) rest ≡ true → accepts (hyphen e) (t ++ rest) ≡ true
@@ -322,7 +305,7 @@ partial-goes _ _ (g.three t u w s p a b c i j k l) e rest h =
 
 lead-dot : (e : Turn) (text : List ℕ) → accepts (dot e 0) text ≡ true → accepts (lead e) text ≡ true
 lead-dot e text h = sym (accepts-goes (lead e) text refl) ∙ by-more false false (part_step e 0) (end_step e) (λ b. not (is_lead b)) (λ h. h)
-    (λ b y. part-none e 0 b (not-no (is_lead b) y)) (λ b y. rw (not-yes (is_lead b) y) refl) text (accepts-goes (dot e 0) text refl ∙ h)
+    (λ b y. part-none e 0 b (not-false (is_lead b) y)) (λ b y. rw (not-true (is_lead b) y) refl) text (accepts-goes (dot e 0) text refl ∙ h)
 
 pub end-goes : (t : List ℕ) (n : Named) → IsEnd t n → (e : Turn) (rest : List ℕ) → goes true (after_step e) rest ≡ true → accepts (lead e) (t ++ rest) ≡ true
 end-goes _ n (g.end l t _ all p) e rest h = subst (λ y. accepts (lead e) y ≡ true) (sym (append_assoc l t rest))

@@ -2,13 +2,12 @@
 use Rattle.std.proofs.Common.{◌≡◌, ℕ, true, false, List, [], ◌∷◌, ◌++◌, refl, sym, ap, ◌∙◌, inl, inr}
 use Rattle.std.specs.Prelude.{◌==◌}
 use Rattle.std.specs.List.{list_all}
-use Rattle.std.proofs.lemmas.Bool.{cases_Bool}
+use Rattle.std.proofs.lemmas.Bool.{and_parts, cases_Bool}
 use Rattle.pn_ranges.specs.Bytes.{is_body, is_space, behind, starts_with}
 use Rattle.pn_ranges.specs.Grammar.{AreGaps, AreSpaces}
 use Rattle.pn_ranges.specs.Table.{Named, any, full, major, minor, all_fit, between, upper_limits}
 use Rattle.pn_ranges.specs.Unread.{Closes, ends_range}
 use Rattle.pn_ranges.proofs.Same.{behind-all}
-use Rattle.pn_ranges.proofs.Words.{and_left, and_right}
 
 -- behind a version
 pub ends-body : (r : List ℕ) → ends_range r ≡ true → starts_with is_body r ≡ false
@@ -30,7 +29,7 @@ apart-body [] r a h = elim (cases_Bool (ends_range r)) [
   | inl ends ↦ ends-body r ends
   | inr more ↦ absurd (let y : false ≡ true = h more in cc)
 ]
-apart-body (b ∷ s) r a h = rw (and_left (is_space b) (list_all is_space s) a) refl
+apart-body (b ∷ s) r a h = rw (and_parts (is_space b) (list_all is_space s) a).0 refl
 
 pub gap-body : (s r : List ℕ) → AreGaps s → starts_with is_body (s ++ r) ≡ false
 gap-body [] r a = absurd (let y : false ≡ true = a.some in cc)
@@ -56,6 +55,6 @@ between-upper any any h = refl
 between-upper any (major a) h = h
 between-upper any (minor a b) h = h
 between-upper any (full a b c p) h = h
-between-upper (major a) high h = and_right _ (all_fit (upper_limits high)) h
-between-upper (minor a b) high h = and_right _ (all_fit (upper_limits high)) h
-between-upper (full a b c p) high h = and_right _ (all_fit (upper_limits high)) h
+between-upper (major a) high h = (and_parts _ (all_fit (upper_limits high)) h).1
+between-upper (minor a b) high h = (and_parts _ (all_fit (upper_limits high)) h).1
+between-upper (full a b c p) high h = (and_parts _ (all_fit (upper_limits high)) h).1

@@ -1,6 +1,7 @@
 -- Comparators: their grammar, and the automaton over them.
 use Rattle.std.proofs.Common.{◌≡◌, ℕ, Bool, true, false, List, [], ◌∷◌, ◌++◌, refl, sym, ap, subst, ◌∙◌, append_assoc}
 use Rattle.std.specs.Prelude.{◌==◌, ◌&&◌, not, if◌then◌else◌}
+use Rattle.std.proofs.lemmas.Bool.{and_parts, not-true}
 use Rattle.pn_ranges.specs.declared.comparator.Sign.{Sign}
 use Rattle.pn_ranges.specs.declared.comparator.Sign.TheVariants as x
 use Rattle.pn_ranges.specs.Bytes.{is_space, front_of, behind, starts_with}
@@ -9,9 +10,8 @@ use Rattle.pn_ranges.specs.Reading.{Begins, IsCompared}
 use Rattle.pn_ranges.specs.Grammar as g
 use Rattle.pn_ranges.specs.Places.{Turn, later, lead, operand, first_fault, fault_signed, is_exact, turn_of}
 use Rattle.pn_ranges.specs.Table.{Named}
-use Rattle.pn_ranges.proofs.Fronts.{front-behind, front-all, behind-same, behind-stops}
-use Rattle.pn_ranges.proofs.Steps.{run}
-use Rattle.pn_ranges.proofs.Words.{and_left, and_right}
+use Rattle.pn_ranges.proofs.FrontOfLemmas.{front-behind, front-all, behind-same, behind-stops}
+use Rattle.pn_ranges.proofs.FirstFaultLemmas.{run}
 
 pub no-sign : (text : List ℕ) → Begins IsSign text x.Exact text
 no-sign text = record { front = []; split = refl; spelled = g.absent }
@@ -58,18 +58,14 @@ exact-end _ t _ n g.tilde e h = cc e
 exact-end _ t _ n g.tilde_greater e h = cc e
 exact-end _ t _ n g.caret e h = cc e
 
-not-true : (a : Bool) → not a ≡ true → a ≡ false
-not-true true h = cc h
-not-true false h = refl
-
 pub plain-end : (text mid after rest : List ℕ) (s : Sign) (n : Named) → Begins IsSign text s mid → (is_exact s && not (starts_with is_space mid)) ≡ true
     → after ≡ behind is_space mid → Begins IsEnd after n rest → Begins IsEnd text n rest
 plain-end text mid after rest s n f plain a h =
-    let same : mid ≡ after = sym (a ∙ behind-same is_space mid (not-true _ (and_right (is_exact s) _ plain))) in
+    let same : mid ≡ after = sym (a ∙ behind-same is_space mid (not-true _ (and_parts (is_exact s) _ plain).1)) in
     record {
       front = f.front ++ h.front;
       split = f.split ∙ ap (λ y. f.front ++ y) (same ∙ h.split) ∙ sym (append_assoc f.front h.front rest);
-      spelled = exact-end f.front h.front s n f.spelled (and_left _ (not (starts_with is_space mid)) plain) h.spelled;
+      spelled = exact-end f.front h.front s n f.spelled (and_parts _ (not (starts_with is_space mid)) plain).0 h.spelled;
     }
 
 pub operand-lead : (text : List ℕ) → starts_with is_space text ≡ false → first_fault operand text ≡ first_fault (lead later) text
@@ -83,7 +79,7 @@ operand-run = run operand is_space (λ b h. rw h refl)
 pub signed-lead : (e : Turn) (s : Sign) (mid after : List ℕ) (plain : Bool) → plain ≡ (is_exact s && not (starts_with is_space mid)) → after ≡ behind is_space mid
     → fault_signed s e mid ≡ first_fault (lead (turn_of plain e)) after
 signed-lead e s mid after true p a =
-    let same : after ≡ mid = a ∙ behind-same is_space mid (not-true (starts_with is_space mid) (and_right (is_exact s) (not (starts_with is_space mid)) (sym p))) in
+    let same : after ≡ mid = a ∙ behind-same is_space mid (not-true (starts_with is_space mid) (and_parts (is_exact s) (not (starts_with is_space mid)) (sym p)).1) in
     ap (λ v. if v then first_fault (lead e) mid else first_fault operand mid) (sym p) ∙ ap (first_fault (lead e)) (sym same)
 signed-lead e s mid after false p a =
     ap (λ v. if v then first_fault (lead e) mid else first_fault operand mid) (sym p) ∙ operand-run mid ∙ operand-lead (behind is_space mid) (behind-stops is_space mid) ∙ ap (first_fault (lead later)) (sym a)

@@ -12,7 +12,7 @@ use Rattle.pn_ranges.specs.ReadingLaw.{ReadingLaw}
 use Rattle.pn_ranges.specs.Table.{Named, between, limits}
 use Rattle.pn_ranges.specs.Unread.{Closes, ends_range}
 use Rattle.pn_ranges.proofs.Bars.{no-tail, no_bar, spaced-bars, tail-of}
-use Rattle.pn_ranges.proofs.Fronts.{behind-append}
+use Rattle.pn_ranges.proofs.FrontOfLemmas.{behind-append}
 use Rattle.pn_ranges.proofs.Same.{Same, Shape, behind-all, behind-operand, comparator-mark, comparator-shape, end-first, end-shape, first-more, head-same, is_head, is_mark, same-end, same-limits, same-shape, same-split, shape-at}
 use Rattle.pn_ranges.proofs.Closings.{closes-body, closes-spaces, gap-body}
 

@@ -1,6 +1,6 @@
 -- A bound that is raised stands before the first fault of the automaton.
 use Rattle.std.proofs.Common.{◌≡◌, ◌≤◌, ◌<◌, ℕ, true, false, List, [], ◌∷◌, ◌++◌, length, Some, None, refl, sym, ap, subst, ◌∙◌, arith, inl, inr, append_assoc, append-nil, length-append}
-use Rattle.std.proofs.lemmas.Bool.{cases_Bool, eqb-true}
+use Rattle.std.proofs.lemmas.Bool.{cases_Bool, eqb-true, not-false}
 use Rattle.pn_ranges.specs.declared.fault.Stop.{Stop}
 use Rattle.pn_ranges.specs.Bytes.{is_body, is_space, is_stop, starts_with}
 use Rattle.pn_ranges.specs.Forms.{AreCompared, AreForms, IsForm}
@@ -9,7 +9,7 @@ use Rattle.pn_ranges.specs.Overs.{HasOver, OverLater, OverRange, OverUpper}
 use Rattle.pn_ranges.specs.Overs as o
 use Rattle.pn_ranges.specs.Places.{first_fault, start}
 use Rattle.pn_ranges.specs.Reading.{left_of}
-use Rattle.pn_ranges.proofs.Accepts.{not-no, stop-digit}
+use Rattle.pn_ranges.proofs.Accepts.{stop-digit}
 use Rattle.pn_ranges.proofs.Faults.{fault-left}
 use Rattle.pn_ranges.proofs.Inside.{accepted, left-within, past}
 use Rattle.pn_ranges.proofs.OverProofs.{all-append}
@@ -98,7 +98,7 @@ behind-form front [] s a ends h =
     let w : None ≡ Some s = sym (accepted front start (forms-go front a)) ∙ ap (first_fault start) (sym (append-nil front)) ∙ h in
     cc w
 behind-form front (b ∷ rest) s a ends h =
-    let stop = not-no (is_stop b) ends in
+    let stop = not-false (is_stop b) ends in
     let k = forms-more front b a stop in
     let p = past front start b rest k.0 (stop-digit b stop) (forms-go (front ++ b ∷ k.0) k.1) in
     let left = left-within (length rest) s (fault-left rest p.0 s (sym p.1 ∙ h)) in

@@ -2,7 +2,7 @@
 use Rattle.std.proofs.Common.{◌≡◌, ◌<◌, ◌^◌, ℕ, suc, Bool, true, false, List, [], ◌∷◌, ◌++◌, Option, Some, None, refl, sym, ap, subst, arith, inl, inr, append_assoc, append-nil}
 use Rattle.std.specs.Prelude.{◌==◌, ◌&&◌, ◌||◌, not, nat_le, nat_lt}
 use Rattle.std.specs.List.{list_all}
-use Rattle.std.proofs.lemmas.Bool.{cases_Bool, eqb-true}
+use Rattle.std.proofs.lemmas.Bool.{and_parts, and_right, cases_Bool, eqb-true, not-true, or_parts}
 use Rattle.std.proofs.lemmas.Bool.Decides.{nat_tests}
 use Rattle.semver.specs.Grammar.{is_build_identifier, is_identifier_byte, is_pre_identifier, has_leading_zero}
 use Rattle.semver.specs.Order.{is_numeric}
@@ -14,8 +14,6 @@ use Rattle.pn_ranges.specs.Table.{named}
 use Rattle.pn_ranges.proofs.Follow.{Bar, Builds, Closed, Digits, Ended, Follows, Gap, Gapped, InBuild, InPre, MayBuild, Parted, Pres, Rest, RestOf, Whole, is_behind_zero, is_behind_zeros}
 use Rattle.pn_ranges.proofs.Follow as w
 use Rattle.pn_ranges.proofs.Parts.{front-number}
-use Rattle.pn_ranges.proofs.Tails.{and_no}
-use Rattle.pn_ranges.proofs.Words.{and_left, and_right}
 
 pub bar-closed : (b : ℕ) (u : List ℕ) → (b == 124) ≡ true → Bar u → Closed (b ∷ u)
 bar-closed b _ h (w.bar u a) = subst (λ z. Closed (z ∷ 124 ∷ u)) (sym (eqb-true b 124 h)) (w.bars u a)
@@ -81,28 +79,24 @@ pre-good : (x : List ℕ) → is_build_identifier x ≡ true → (is_numeric x &
 pre-good x h z = rw (h, z) refl
 
 first-good : (b : ℕ) (x : List ℕ) → (b == 48) ≡ false → is_identifier_byte b ≡ true → list_all is_identifier_byte x ≡ true → is_pre_identifier (b ∷ x) ≡ true
-first-good b x z y h = pre-good (b ∷ x) (build-good b x y h) (let led : has_leading_zero (b ∷ x) ≡ false = rw z refl in rw led (and_no (is_numeric (b ∷ x))))
+first-good b x z y h = pre-good (b ∷ x) (build-good b x y h) (let led : has_leading_zero (b ∷ x) ≡ false = rw z refl in rw led (and_right (is_numeric (b ∷ x)) false refl))
 
 mixed-good : (b : ℕ) (x : List ℕ) → is_identifier_byte b ≡ true → list_all is_identifier_byte x ≡ true → is_numeric x ≡ false → is_pre_identifier (b ∷ x) ≡ true
-mixed-good b x y h n = pre-good (b ∷ x) (build-good b x y h) (let mixed : is_numeric (b ∷ x) ≡ false = rw n (and_no _) in rw mixed refl)
+mixed-good b x y h n = pre-good (b ∷ x) (build-good b x y h) (let mixed : is_numeric (b ∷ x) ≡ false = rw n (and_right _ false refl) in rw mixed refl)
 
 letter-mixed : (c : ℕ) (x : List ℕ) → is_digit c ≡ false → is_numeric (c ∷ x) ≡ false
 letter-mixed c x d = rw d refl
 
 number-mixed : (c : ℕ) (x : List ℕ) → is_numeric x ≡ false → is_numeric (c ∷ x) ≡ false
-number-mixed c x n = rw n (and_no _)
+number-mixed c x n = rw n (and_right _ false refl)
 
 digit-word : (b : ℕ) → is_digit b ≡ true → is_identifier_byte b ≡ true
 digit-word b h = grind (arith, nat_tests)
 
-not-yes : (a : Bool) → not a ≡ true → a ≡ false
-not-yes true h = cc h
-not-yes false h = refl
-
 zeros-digit : (b : ℕ) (x : List ℕ) → is_digit b ≡ true → is_behind_zeros x ≡ true → is_behind_zeros (b ∷ x) ≡ true
 zeros-digit b x d h =
-    let mixed = not-yes (is_numeric x) (and_right (list_all is_identifier_byte x) (not (is_numeric x)) h) in
-    rw (digit-word b d, and_left (list_all is_identifier_byte x) (not (is_numeric x)) h, number-mixed b x mixed) refl
+    let mixed = not-true (is_numeric x) (and_parts (list_all is_identifier_byte x) (not (is_numeric x)) h).1 in
+    rw (digit-word b d, (and_parts (list_all is_identifier_byte x) (not (is_numeric x)) h).0, number-mixed b x mixed) refl
 
 zeros-letter : (b : ℕ) (x : List ℕ) → is_identifier_byte b ≡ true → is_digit b ≡ false → list_all is_identifier_byte x ≡ true → is_behind_zeros (b ∷ x) ≡ true
 zeros-letter b x y d h = let all : list_all is_identifier_byte (b ∷ x) ≡ true = rw (y, h) refl in rw (all, letter-mixed b x d) refl
@@ -110,8 +104,8 @@ zeros-letter b x y d h = let all : list_all is_identifier_byte (b ∷ x) ≡ tru
 zero-digit : (b : ℕ) (x : List ℕ) → is_digit b ≡ true → is_behind_zeros x ≡ true → is_behind_zero (b ∷ x) ≡ true
 zero-digit b x d h =
     let k = zeros-digit b x d h in
-    mixed-good 48 (b ∷ x) refl (and_left (list_all is_identifier_byte (b ∷ x)) (not (is_numeric (b ∷ x))) k)
-    (not-yes (is_numeric (b ∷ x)) (and_right (list_all is_identifier_byte (b ∷ x)) (not (is_numeric (b ∷ x))) k))
+    mixed-good 48 (b ∷ x) refl (and_parts (list_all is_identifier_byte (b ∷ x)) (not (is_numeric (b ∷ x))) k).0
+    (not-true (is_numeric (b ∷ x)) (and_parts (list_all is_identifier_byte (b ∷ x)) (not (is_numeric (b ∷ x))) k).1)
 
 zero-letter : (b : ℕ) (x : List ℕ) → is_identifier_byte b ≡ true → is_digit b ≡ false → list_all is_identifier_byte x ≡ true → is_behind_zero (b ∷ x) ≡ true
 zero-letter b x y d h = mixed-good 48 (b ∷ x) refl (rw (y, h) refl) (letter-mixed b x d)
@@ -167,11 +161,11 @@ build-step e b text u h = elim (cases_Bool (is_identifier_byte b)) [
 -- parts
 pub whole-step : (e : Turn) (k b : ℕ) (text u : List ℕ) → RestOf (whole_step e k b) text u → Whole e k (b ∷ u)
 whole-step e k b text u h = elim (cases_Bool ((b == 46) && nat_lt k 3)) [
-  | inl dots ↦ at-byte (Whole e k) b 46 u (and_left (b == 46) (nat_lt k 3) dots) (dotted (and_right (b == 46) (nat_lt k 3) dots) u (rw dots at h))
+  | inl dots ↦ at-byte (Whole e k) b 46 u (and_parts (b == 46) (nat_lt k 3) dots).0 (dotted (and_parts (b == 46) (nat_lt k 3) dots).1 u (rw dots at h))
   | inr nodot ↦ elim (cases_Bool ((b == 45) && (k == 3))) [
-    | inl minus ↦ at-byte (Whole e k) b 45 u (and_left (b == 45) (k == 3) minus) (w.pre k u (and_right (b == 45) (k == 3) minus) (rw (nodot, minus) at h))
+    | inl minus ↦ at-byte (Whole e k) b 45 u (and_parts (b == 45) (k == 3) minus).0 (w.pre k u (and_parts (b == 45) (k == 3) minus).1 (rw (nodot, minus) at h))
     | inr nominus ↦ elim (cases_Bool ((b == 43) && (k == 3))) [
-      | inl more ↦ at-byte (Whole e k) b 43 u (and_left (b == 43) (k == 3) more) (w.plus k u (and_right (b == 43) (k == 3) more) (rw (nodot, nominus, more) at h))
+      | inl more ↦ at-byte (Whole e k) b 43 u (and_parts (b == 43) (k == 3) more).0 (w.plus k u (and_parts (b == 43) (k == 3) more).1 (rw (nodot, nominus, more) at h))
       | inr none ↦ w.ends k (b ∷ u) (step-follows e b text u (rw (nodot, nominus, none) at h))
     ]
   ]
@@ -182,10 +176,6 @@ whole-step e k b text u h = elim (cases_Bool ((b == 46) && nat_lt k 3)) [
 -- a number in front of the text is below 2^64
 abbrev pub Small : Option State → List ℕ → Type 0
 Small next text = (s : State) → next ≡ Some s → is_large start s text ≡ false
-
-or-left : (a b : Bool) → (a || b) ≡ false → a ≡ false
-or-left true b h = cc h
-or-left false b h = refl
 
 small-number : (n : ℕ) → nat_le (2 ^ 64) n ≡ false → n < 2 ^ 64
 small-number n h = grind (arith, nat_tests)
@@ -203,7 +193,7 @@ part-step e k b text u small h = elim (cases_Bool ((b == 48) || is_wild b)) [
         let fits : nat_le (2 ^ 64) (number_at (b ∷ text)) ≡ false = small (digits e (suc k)) (rw (long, digit) refl) in
         let i : IsPart (b ∷ front_of is_digit text) (Some (number_at (b ∷ text))) =
         subst (λ z. IsPart z (Some (number_at (b ∷ text)))) same
-        (g.number (front_of is_digit (b ∷ text)) (number_at (b ∷ text)) (front-number b text digit (or-left (b == 48) (is_wild b) long)) (small-number (number_at (b ∷ text)) fits)) in
+        (g.number (front_of is_digit (b ∷ text)) (number_at (b ∷ text)) (front-number b text digit (or_parts (b == 48) (is_wild b) long).0) (small-number (number_at (b ∷ text)) fits)) in
         subst (λ z. Parted e k (b ∷ z)) (sym d.split) (w.parted (b ∷ front_of is_digit text) d.rest (Some (number_at (b ∷ text))) i d.whole)
     | inr none ↦ absurd (rw (long, none) at h)
   ]

@@ -1,7 +1,7 @@
 -- What may follow a byte more, in comparators and ranges.
 use Rattle.std.proofs.Common.{◌≡◌, ℕ, Bool, true, false, List, [], ◌∷◌, ◌++◌, refl, sym, ap, subst, ◌∙◌, inl, inr, append_assoc, append-nil}
 use Rattle.std.specs.Prelude.{◌==◌, ◌&&◌, ◌||◌, ◌⊎◌}
-use Rattle.std.proofs.lemmas.Bool.{cases_Bool}
+use Rattle.std.proofs.lemmas.Bool.{and_parts, cases_Bool}
 use Rattle.pn_ranges.specs.declared.comparator.Sign.{Sign}
 use Rattle.pn_ranges.specs.declared.comparator.Sign.TheVariants as x
 use Rattle.pn_ranges.specs.Bytes.{is_space, starts_with}
@@ -15,7 +15,6 @@ use Rattle.pn_ranges.proofs.Comparisons.{and_first, end-comparator, starts-front
 use Rattle.pn_ranges.proofs.Follow.{Bar, Closed, Compared, Dash, Dashed, Ended, Equal, Far, Follows, Gap, Gapped, Operand, Rest, RestOf, Signed}
 use Rattle.pn_ranges.proofs.Follow as w
 use Rattle.pn_ranges.proofs.FollowParts.{Small, at-byte, bar-closed, end-step}
-use Rattle.pn_ranges.proofs.Words.{and_left, and_right}
 
 -- comparators
 operand-space : (b : ℕ) (u : List ℕ) → is_space b ≡ true → Operand u → Operand (b ∷ u)
@@ -228,7 +227,7 @@ gap-step m b text u small h = elim (cases_Bool (is_space b)) [
   | inr other ↦ elim (cases_Bool (b == 124)) [
     | inl mark ↦ w.gap m (b ∷ u) (w.closed (b ∷ u) (bar-closed b u mark (rw (other, mark) at h)))
     | inr none ↦ elim (cases_Bool (m && (b == 45))) [
-      | inl minus ↦ gapped-dash m b u (and_left m (b == 45) minus) (and_right m (b == 45) minus) (rw (other, none, minus) at h)
+      | inl minus ↦ gapped-dash m b u (and_parts m (b == 45) minus).0 (and_parts m (b == 45) minus).1 (rw (other, none, minus) at h)
       | inr nominus ↦
           let is : step (gap m) b ≡ comparator_step later b = rw (other, none, nominus) refl in
           w.gap m (b ∷ u) (compared-gap (b ∷ u) (comparator-step later b text u (λ s r. small s (is ∙ r)) (subst (λ o. RestOf o text u) is h)))

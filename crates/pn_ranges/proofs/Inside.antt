@@ -3,7 +3,7 @@ use Rattle.std.proofs.Common.{◌≡◌, ◌≤◌, ◌^◌, ◌*◌, ◌+◌, �
 use Rattle.std.specs.Prelude.{◌==◌, ◌&&◌, not, nat_le}
 use Rattle.std.specs.List.{list_all}
 use Rattle.std.specs.Result.{IsErrAnd}
-use Rattle.std.proofs.lemmas.Bool.{cases_Bool}
+use Rattle.std.proofs.lemmas.Bool.{and_parts, and_right, cases_Bool, not-false, not-true}
 use Rattle.std.proofs.lemmas.Bool.Decides.{nat_tests}
 use Rattle.semver.specs.Grammar.{is_build_identifier, is_pre_identifier}
 use Rattle.pn_ranges.specs.declared.fault.Stop.{Stop}
@@ -15,13 +15,12 @@ use Rattle.pn_ranges.specs.Reading.{Begins, Fronted, left_of, signed}
 use Rattle.pn_ranges.specs.Refusals.{IsLeftOf}
 use Rattle.pn_ranges.specs.Table.{Named}
 use Rattle.pn_ranges.specs.Unread.{NoCompared, NoEnd, NoUpper}
-use Rattle.pn_ranges.proofs.Accepts.{accepts, end-goes, goes, not-no, not-yes, on_some, small, stop-digit}
+use Rattle.pn_ranges.proofs.Accepts.{accepts, end-goes, goes, on_some, small, stop-digit}
 use Rattle.pn_ranges.proofs.Closings.{gap-starts}
 use Rattle.pn_ranges.proofs.Faults.{fault-left}
-use Rattle.pn_ranges.proofs.Fronts.{behind-append, behind-le, behind-same, behind-stops, front-all, front-behind, number-stops}
+use Rattle.pn_ranges.proofs.FrontOfLemmas.{behind-append, behind-le, behind-same, behind-stops, front-all, front-behind, number-stops}
 use Rattle.pn_ranges.proofs.Same.{all-weaken, behind-all, build-id, comparator-shape, digit-body, end-body, head-same, ids-body, lead-body, part-body, pre-id, shape-at}
-use Rattle.pn_ranges.proofs.Steps.{fault-step}
-use Rattle.pn_ranges.proofs.Words.{and_false, and_left, and_right}
+use Rattle.pn_ranges.proofs.FirstFaultLemmas.{fault-step}
 
 -- a fault behind bytes of the same version
 pub inside-behind : (text front rest : List ℕ) (n : ℕ) → text ≡ front ++ rest → list_all is_body front ≡ true → length (behind is_body rest) ≤ n → length (behind is_body text) ≤ n
@@ -74,15 +73,15 @@ none-number b r h = let e : number_at (b ∷ r) ≡ 0 = number-stops 0 (b ∷ r)
 pub past : (u : List ℕ) (s : State) (b : ℕ) (r y : List ℕ) → is_digit b ≡ false → accepts s (u ++ b ∷ y) ≡ true → (q : State) × (first_fault s (u ++ b ∷ r) ≡ first_fault q r)
 past [] s b r y d h = elim (step s b) as (λ o. step s b ≡ o → on_some o (λ n. small s n (b ∷ y) && accepts n y) ≡ true → (q : State) × (first_fault s (b ∷ r) ≡ first_fault q r)) [
   | None ↦ λ e k. absurd (let w : false ≡ true = k in cc)
-  | Some n ↦ λ e k. (n, fault-step s n b r e (and_false (is_digits n && not (is_digits s)) (nat_le (2 ^ 64) (number_at (b ∷ r))) (none-number b r d)))
+  | Some n ↦ λ e k. (n, fault-step s n b r e (and_right (is_digits n && not (is_digits s)) (nat_le (2 ^ 64) (number_at (b ∷ r))) (none-number b r d)))
 ] refl h
 past (c ∷ u) s b r y d h =
     elim (step s c) as (λ o. step s c ≡ o → on_some o (λ n. small s n (c ∷ (u ++ b ∷ y)) && accepts n (u ++ b ∷ y)) ≡ true
     → (q : State) × (first_fault s (c ∷ (u ++ b ∷ r)) ≡ first_fault q r)) [
       | None ↦ λ e k. absurd (let w : false ≡ true = k in cc)
       | Some n ↦ λ e k.
-          let i = past u n b r y d (and_right (small s n (c ∷ (u ++ b ∷ y))) (accepts n (u ++ b ∷ y)) k) in
-          let fits : is_large s n (c ∷ (u ++ b ∷ y)) ≡ false = not-yes (is_large s n (c ∷ (u ++ b ∷ y))) (and_left (small s n (c ∷ (u ++ b ∷ y))) (accepts n (u ++ b ∷ y)) k) in
+          let i = past u n b r y d (and_parts (small s n (c ∷ (u ++ b ∷ y))) (accepts n (u ++ b ∷ y)) k).1 in
+          let fits : is_large s n (c ∷ (u ++ b ∷ y)) ≡ false = not-true (is_large s n (c ∷ (u ++ b ∷ y))) (and_parts (small s n (c ∷ (u ++ b ∷ y))) (accepts n (u ++ b ∷ y)) k).0 in
           let same : is_large s n (c ∷ (u ++ b ∷ r)) ≡ is_large s n (c ∷ (u ++ b ∷ y)) =
           ap (λ z. is_digits n && not (is_digits s) && nat_le (2 ^ 64) z) (number-same (c ∷ u) 0 b r y d) in
           (i.0, fault-step s n c (u ++ b ∷ r) e (same ∙ fits) ∙ i.1)
@@ -93,8 +92,8 @@ accepted [] s h = rw h refl
 accepted (b ∷ rest) s h = elim (step s b) as (λ o. step s b ≡ o → on_some o (λ n. small s n (b ∷ rest) && accepts n rest) ≡ true → first_fault s (b ∷ rest) ≡ None) [
   | None ↦ λ e k. absurd (let w : false ≡ true = k in cc)
   | Some n ↦ λ e k.
-      fault-step s n b rest e (not-yes (is_large s n (b ∷ rest)) (and_left (small s n (b ∷ rest)) (accepts n rest) k))
-      ∙ accepted rest n (and_right (small s n (b ∷ rest)) (accepts n rest) k)
+      fault-step s n b rest e (not-true (is_large s n (b ∷ rest)) (and_parts (small s n (b ∷ rest)) (accepts n rest) k).0)
+      ∙ accepted rest n (and_parts (small s n (b ∷ rest)) (accepts n rest) k).1
 ] refl h
 
 pub left-within : (n : ℕ) (s : Stop) → IsLeftOf n s → left_of s ≤ n
@@ -120,7 +119,7 @@ no-end text s f l t [] n i ends e =
     let w : None ≡ Some s = sym (accepted (t ++ []) (lead later) g) ∙ ap (first_fault (lead later)) (sym e) ∙ f in
     cc w
 no-end text s f l t (b ∷ r) n i ends e =
-    let is : is_stop b ≡ true = not-no (is_stop b) ends in
+    let is : is_stop b ≡ true = not-false (is_stop b) ends in
     let k = stop-goes b is in
     let p = past t (lead later) b r k.more (stop-digit b is) (end-goes t n i later (b ∷ k.more) k.goes) in
     let left = left-within (length r) s (fault-left r p.0 s (sym p.1 ∙ ap (first_fault (lead later)) (sym e) ∙ f)) in

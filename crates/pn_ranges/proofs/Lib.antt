@@ -1,7 +1,7 @@
-pub mod Fronts
-pub mod Steps
+pub mod FrontOfLemmas
+pub mod FirstFaultLemmas
 pub mod Parts
-pub mod Words
+pub mod IdentifierLemmas
 pub mod Wildcards
 pub mod Tails
 pub mod Partials

@@ -1,14 +1,13 @@
 -- Where a number begins: behind no digit, and where a wildcard may stand too.
 use Rattle.std.proofs.Common.{◌≡◌, ℕ, suc, Bool, true, false, Option, Some, None, refl, sym, ap, ◌∙◌, arith, inl, inr}
 use Rattle.std.specs.Prelude.{◌==◌, ◌&&◌, ◌||◌, nat_lt, if◌then◌else◌}
-use Rattle.std.proofs.lemmas.Bool.{cases_Bool, eqb-true}
+use Rattle.std.proofs.lemmas.Bool.{and_right, cases_Bool, eqb-true}
 use Rattle.std.proofs.lemmas.Bool.Decides.{nat_tests}
 use Rattle.semver.specs.Grammar.{is_identifier_byte}
 use Rattle.pn_ranges.specs.Bytes.{is_space, is_lead, is_wild, is_digit}
 use Rattle.pn_ranges.specs.Places.{Turn, State, after, after_step, comparator_step, end_step, is_digits, operand_step, part_step, pre_step, step, whole_step}
 use Rattle.pn_ranges.specs.Places as p
 use Rattle.pn_ranges.proofs.Accepts.{on_some}
-use Rattle.pn_ranges.proofs.Words.{and_false}
 
 -- where a part may begin
 abbrev pub opens : State → Bool
@@ -133,7 +132,7 @@ digit-shut p.start b w d =
 digit-shut (p.gap m) b w d =
     skip (is_space b) (Some (p.gap m)) _ opens (digit-space b d)
     (skip (b == 124) (Some p.bar) _ opens (digit-124 b d)
-    (skip (m && (b == 45)) (Some p.dash) (comparator_step p.later b) opens (and_false m (b == 45) (digit-45 b d)) (comparator-shut p.later b d)))
+    (skip (m && (b == 45)) (Some p.dash) (comparator_step p.later b) opens (and_right m (b == 45) (digit-45 b d)) (comparator-shut p.later b d)))
 digit-shut p.closed b w d = skip (is_space b) (Some p.closed) _ opens (digit-space b d) (skip (b == 124) (Some p.bar) None opens (digit-124 b d) refl)
 digit-shut p.bar b w d = skip (b == 124) (Some p.start) None opens (digit-124 b d) refl
 digit-shut p.dash b w d = skip (is_space b) (Some p.far) None opens (digit-space b d) refl

@@ -2,7 +2,7 @@
 use Rattle.std.proofs.Common.{◌≡◌, ◌≤◌, ◌<◌, ℕ, zero, suc, Bool, true, false, List, [], ◌∷◌, ◌++◌, length, Option, Some, None, refl, sym, ap, subst, ◌∙◌, arith, inl, inr, append_assoc}
 use Rattle.std.specs.Prelude.{◌==◌, ◌&&◌, not, if◌then◌else◌}
 use Rattle.std.specs.List.{list_all}
-use Rattle.std.proofs.lemmas.Bool.{cases_Bool}
+use Rattle.std.proofs.lemmas.Bool.{and_parts, cases_Bool}
 use Rattle.std.proofs.lemmas.Bool.Decides.{nat_tests}
 use Rattle.pn_ranges.specs.declared.comparator.Sign.{Sign}
 use Rattle.pn_ranges.specs.declared.comparator.Sign.TheVariants as x
@@ -14,9 +14,8 @@ use Rattle.pn_ranges.specs.Overs.{OverAt, OverUpper, PartsAt, PlacedAt, parts_of
 use Rattle.pn_ranges.specs.Overs as o
 use Rattle.pn_ranges.specs.Table.{Named, all_fit, any, full, limits, major, minor, named, raised, upper_limits, upper_raised}
 use Rattle.pn_ranges.proofs.Comparisons.{and_first, starts-front}
-use Rattle.pn_ranges.proofs.Fronts.{front-all, front-behind}
+use Rattle.pn_ranges.proofs.FrontOfLemmas.{front-all, front-behind}
 use Rattle.pn_ranges.proofs.Spaced.{gap-front}
-use Rattle.pn_ranges.proofs.Words.{and_left, and_right}
 
 -- how many parts are named
 one-named : (a : Option ℕ) (p : List ℕ) → parts_of (named a None None p) ≤ 1
@@ -152,11 +151,11 @@ space-shut b h = grind (arith, nat_tests)
 
 leads-shut : (t : List ℕ) → list_all is_lead t ≡ true → list_all shut t ≡ true
 leads-shut [] h = refl
-leads-shut (b ∷ t) h = rw (lead-shut b (and_left (is_lead b) (list_all is_lead t) h)) (leads-shut t (and_right (is_lead b) (list_all is_lead t) h))
+leads-shut (b ∷ t) h = rw (lead-shut b (and_parts (is_lead b) (list_all is_lead t) h).0) (leads-shut t (and_parts (is_lead b) (list_all is_lead t) h).1)
 
 pub spaces-shut : (t : List ℕ) → list_all is_space t ≡ true → list_all shut t ≡ true
 spaces-shut [] h = refl
-spaces-shut (b ∷ t) h = rw (space-shut b (and_left (is_space b) (list_all is_space t) h)) (spaces-shut t (and_right (is_space b) (list_all is_space t) h))
+spaces-shut (b ∷ t) h = rw (space-shut b (and_parts (is_space b) (list_all is_space t) h).0) (spaces-shut t (and_parts (is_space b) (list_all is_space t) h).1)
 
 sign-shut : (t : List ℕ) (s : Sign) → IsSign t s → list_all shut t ≡ true
 sign-shut _ _ g.absent = refl

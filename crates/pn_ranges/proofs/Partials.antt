@@ -1,15 +1,15 @@
 -- Partial versions: their grammar, and the automaton over them.
 use Rattle.std.proofs.Common.{◌≡◌, ℕ, false, List, [], ◌∷◌, ◌++◌, Option, None, refl, sym, ap, subst, ◌∙◌, append_assoc}
 use Rattle.std.specs.Prelude.{◌==◌}
+use Rattle.std.proofs.lemmas.Bool.{and_right}
 use Rattle.pn_ranges.specs.Bytes.{is_lead, front_of, behind, starts_with}
 use Rattle.pn_ranges.specs.Grammar.{IsPart, IsPartial, IsTail, IsEnd}
 use Rattle.pn_ranges.specs.Reading.{Begins}
 use Rattle.pn_ranges.specs.Grammar as g
 use Rattle.pn_ranges.specs.Places.{Turn, lead, dot, whole, first_fault, fault_after}
 use Rattle.pn_ranges.specs.Table.{Named, named}
-use Rattle.pn_ranges.proofs.Fronts.{front-behind, front-all, behind-stops}
-use Rattle.pn_ranges.proofs.Steps.{after-same, run}
-use Rattle.pn_ranges.proofs.Tails.{and_no}
+use Rattle.pn_ranges.proofs.FrontOfLemmas.{front-behind, front-all, behind-stops}
+use Rattle.pn_ranges.proofs.FirstFaultLemmas.{after-same, run}
 
 pub whole-dot1 : (e : Turn) (text rest : List ℕ) → text ≡ 46 ∷ rest → first_fault (whole e 1) text ≡ first_fault (dot e 1) rest
 whole-dot1 e text rest t = ap (first_fault (whole e 1)) t
@@ -19,11 +19,11 @@ whole-dot2 e text rest t = ap (first_fault (whole e 2)) t
 
 pub whole-end1 : (e : Turn) (text : List ℕ) → starts_with (λ b. b == 46) text ≡ false → first_fault (whole e 1) text ≡ fault_after e text
 whole-end1 e [] h = refl
-whole-end1 e (b ∷ rest) h = rw (h, and_no (b == 45), and_no (b == 43)) (after-same (whole e 1) e b rest)
+whole-end1 e (b ∷ rest) h = rw (h, and_right (b == 45) false refl, and_right (b == 43) false refl) (after-same (whole e 1) e b rest)
 
 pub whole-end2 : (e : Turn) (text : List ℕ) → starts_with (λ b. b == 46) text ≡ false → first_fault (whole e 2) text ≡ fault_after e text
 whole-end2 e [] h = refl
-whole-end2 e (b ∷ rest) h = rw (h, and_no (b == 45), and_no (b == 43)) (after-same (whole e 2) e b rest)
+whole-end2 e (b ∷ rest) h = rw (h, and_right (b == 45) false refl, and_right (b == 43) false refl) (after-same (whole e 2) e b rest)
 
 -- where no `v` or `=` comes, a part does
 pub lead-dot : (e : Turn) (text : List ℕ) → starts_with is_lead text ≡ false → first_fault (lead e) text ≡ first_fault (dot e 0) text

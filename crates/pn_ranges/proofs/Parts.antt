@@ -7,8 +7,8 @@ use Rattle.pn_ranges.specs.Grammar.{IsNumber, IsPart}
 use Rattle.pn_ranges.specs.Reading.{Begins}
 use Rattle.pn_ranges.specs.Grammar as g
 use Rattle.pn_ranges.specs.Places.{Turn, dot, whole, digits, part_step, is_large, first_fault}
-use Rattle.pn_ranges.proofs.Fronts.{front-behind, front-all, behind-stops, number-front, number-next, number-grows}
-use Rattle.pn_ranges.proofs.Steps.{fault-step, digits-run, digits-whole}
+use Rattle.pn_ranges.proofs.FrontOfLemmas.{front-behind, front-all, behind-stops, number-front, number-next, number-grows}
+use Rattle.pn_ranges.proofs.FirstFaultLemmas.{fault-step, digits-run, digits-whole}
 
 pub number-value : (n b : ℕ) (text rest : List ℕ) (all : ℕ) → number_from n text ≡ all → text ≡ b ∷ rest → is_digit b ≡ true → number_from (n * 10 + (b - 48)) rest ≡ all
 number-value n b text rest all v t d = sym (number-next n b rest d) ∙ ap (number_from n) (sym t) ∙ v

@@ -2,7 +2,7 @@
 use Rattle.std.proofs.Common.{◌≡◌, ℕ, Bool, true, false, List, [], ◌∷◌, ◌++◌, Option, Some, None, refl, sym, ap, subst, ◌∙◌, arith, inl, inr, append_assoc, append-nil}
 use Rattle.std.specs.Prelude.{◌==◌, ◌&&◌, ◌||◌, not, if◌then◌else◌}
 use Rattle.std.specs.List.{list_all}
-use Rattle.std.proofs.lemmas.Bool.{cases_Bool}
+use Rattle.std.proofs.lemmas.Bool.{and_parts, and_right, cases_Bool, not-false, not-true}
 use Rattle.std.proofs.lemmas.Bool.Decides.{nat_tests}
 use Rattle.pn_ranges.specs.declared.comparator.Sign.{Sign}
 use Rattle.pn_ranges.specs.Bytes.{is_space, is_lead, is_wild, is_digit}
@@ -12,9 +12,7 @@ use Rattle.pn_ranges.specs.Grammar.{AreGaps, AreSpaces, IsComparator, IsEnd, IsS
 use Rattle.pn_ranges.specs.Grammar as g
 use Rattle.pn_ranges.specs.Places.{Turn, State, first, later, upper, after, start, gap, closed, bar, dash, far, sign, equal, operand, lead, step, end_step, comparator_step, operand_step, after_step}
 use Rattle.pn_ranges.specs.Table.{Named}
-use Rattle.pn_ranges.proofs.Tails.{and_no}
-use Rattle.pn_ranges.proofs.Accepts.{accepts, accepts-goes, by-more, end-goes, end-none, fresh, goes, not-no, not-yes, stays-on}
-use Rattle.pn_ranges.proofs.Words.{and_left, and_right}
+use Rattle.pn_ranges.proofs.Accepts.{accepts, accepts-goes, by-more, end-goes, end-none, fresh, goes, stays-on}
 
 -- a byte that a version begins with
 starts-60 : (b : ℕ) → ((b == 60) || (b == 62) || (b == 126) || (b == 94)) ≡ true → is_lead b ≡ false
@@ -32,15 +30,15 @@ starts-digit b h = grind (arith, nat_tests)
 -- an end of `A - B` where another state stands in front of it
 lead-operand : (text : List ℕ) → accepts (lead later) text ≡ true → accepts operand text ≡ true
 lead-operand text h = sym (accepts-goes operand text refl) ∙ by-more false false (end_step later) operand_step (λ b. not (is_space b)) (λ h. h)
-    (λ b y. end-none later b (not-no (is_space b) y)) (λ b y. rw (not-yes (is_space b) y) refl) text (accepts-goes (lead later) text refl ∙ h)
+    (λ b y. end-none later b (not-false (is_space b) y)) (λ b y. rw (not-true (is_space b) y) refl) text (accepts-goes (lead later) text refl ∙ h)
 
 lead-equal : (e : Turn) (text : List ℕ) → accepts (lead e) text ≡ true → accepts (equal e) text ≡ true
 lead-equal e text h = sym (accepts-goes (equal e) text refl) ∙ by-more false false (end_step e) (step (equal e)) (λ b. not (is_space b)) (λ h. h)
-    (λ b y. end-none e b (not-no (is_space b) y)) (λ b y. rw (not-yes (is_space b) y) refl) text (accepts-goes (lead e) text refl ∙ h)
+    (λ b y. end-none e b (not-false (is_space b) y)) (λ b y. rw (not-true (is_space b) y) refl) text (accepts-goes (lead e) text refl ∙ h)
 
 lead-far : (text : List ℕ) → accepts (lead upper) text ≡ true → accepts far text ≡ true
 lead-far text h = sym (accepts-goes far text refl) ∙ by-more false false (end_step upper) (step far) (λ b. not (is_space b)) (λ h. h)
-    (λ b y. end-none upper b (not-no (is_space b) y)) (λ b y. rw (not-yes (is_space b) y) refl) text (accepts-goes (lead upper) text refl ∙ h)
+    (λ b y. end-none upper b (not-false (is_space b) y)) (λ b y. rw (not-true (is_space b) y) refl) text (accepts-goes (lead upper) text refl ∙ h)
 
 operand-61 : (text : List ℕ) → accepts operand text ≡ true → accepts (sign 61) text ≡ true
 operand-61 [] h = h
@@ -56,7 +54,7 @@ operand-61 (b ∷ rest) h = elim (cases_Bool (b == 61)) [
 
 operand-62 : (text : List ℕ) → accepts operand text ≡ true → accepts (sign 62) text ≡ true
 operand-62 text h = sym (accepts-goes (sign 62) text refl) ∙ by-more false false operand_step (step (sign 62)) (λ b. not (b == 62)) (λ h. h)
-    (λ b y. none b (not-no (b == 62) y)) (λ b y. rw (not-yes (b == 62) y) refl) text (accepts-goes operand text refl ∙ h) where
+    (λ b y. none b (not-false (b == 62) y)) (λ b y. rw (not-true (b == 62) y) refl) text (accepts-goes operand text refl ∙ h) where
       no-space : (b : ℕ) → (b == 62) ≡ true → is_space b ≡ false
       no-space b h = grind (arith, nat_tests)
 
@@ -101,7 +99,7 @@ operand-goes s t rest n a i h = subst (λ y. accepts operand y ≡ true) (sym (a
 
 equal-goes : (e : Turn) (s t rest : List ℕ) (n : Named) → AreSpaces s → IsEnd t n → Goes e rest → accepts (equal e) ((s ++ t) ++ rest) ≡ true
 equal-goes e [] t rest n a i h = lead-equal e (t ++ rest) (end-goes t n i e rest h.turn)
-equal-goes e (b ∷ s) t rest n a i h = rw (and_left (is_space b) (list_all is_space s) a) (operand-goes s t rest n (and_right (is_space b) (list_all is_space s) a) i h.later)
+equal-goes e (b ∷ s) t rest n a i h = rw (and_parts (is_space b) (list_all is_space s) a).0 (operand-goes s t rest n (and_parts (is_space b) (list_all is_space s) a).1 i h.later)
 
 -- a state where spaces and comparators may come
 record Opens (s : State) (e : Turn) : Type 0 where
@@ -136,14 +134,14 @@ opens-start : Opens start first
 opens-start = record {
   spaces = λ b h. rw h refl;
   compares = λ text h. sym (accepts-goes start text refl) ∙ by-more false true (comparator_step first) (step start) (λ b. not (is_space b || (b == 124) || (b == 45))) (λ h. refl)
-      (λ b y. gap-none first b (not-no (is_space b || (b == 124) || (b == 45)) y)) (λ b y. rw (no-space b (not-yes _ y), no-124 b (not-yes _ y)) refl) text h;
+      (λ b y. gap-none first b (not-false (is_space b || (b == 124) || (b == 45)) y)) (λ b y. rw (no-space b (not-true _ y), no-124 b (not-true _ y)) refl) text h;
 }
 
 opens-gap : (m : Bool) → Opens (gap m) later
 opens-gap m = record {
   spaces = λ b h. rw h refl;
   compares = λ text h. sym (accepts-goes (gap m) text refl) ∙ by-more false true (comparator_step later) (step (gap m)) (λ b. not (is_space b || (b == 124) || (b == 45))) (λ h. refl)
-      (λ b y. gap-none later b (not-no (is_space b || (b == 124) || (b == 45)) y)) (λ b y. rw (no-space b (not-yes _ y), no-124 b (not-yes _ y), no-45 b (not-yes _ y), and_no m) refl) text h;
+      (λ b y. gap-none later b (not-false (is_space b || (b == 124) || (b == 45)) y)) (λ b y. rw (no-space b (not-true _ y), no-124 b (not-true _ y), no-45 b (not-true _ y), and_right m false refl) refl) text h;
 }
 
 -- where a range ends
@@ -159,8 +157,8 @@ closes-more f same = by-more true true closes f (λ b. b == 124) (λ h. h) (λ b
 closes-after : (e : Turn) (s rest : List ℕ) → AreSpaces s → goes true closes rest ≡ true → goes true (after_step e) (s ++ rest) ≡ true
 closes-after e [] rest a h = closes-more (after_step e) (λ b n y. rw (n, y) refl) rest h
 closes-after e (b ∷ s) rest a h =
-    rw (and_left (is_space b) (list_all is_space s) a)
-    (ap (λ v. v && accepts (after e) (s ++ rest)) (after-fresh e (b ∷ (s ++ rest))) ∙ spaces e s (and_right (is_space b) (list_all is_space s) a)) where
+    rw (and_parts (is_space b) (list_all is_space s) a).0
+    (ap (λ v. v && accepts (after e) (s ++ rest)) (after-fresh e (b ∷ (s ++ rest))) ∙ spaces e s (and_parts (is_space b) (list_all is_space s) a).1) where
       after-fresh : (e : Turn) (text : List ℕ) → fresh (after e) text ≡ true
       after-fresh first text = refl
       after-fresh later text = refl
@@ -189,7 +187,7 @@ gap-goes : (s rest : List ℕ) → AreGaps s → ((m : Bool) → accepts (gap m)
 gap-goes [] rest a h = absurd (let x : false ≡ true = a.some in cc)
 gap-goes (b ∷ s) rest a h =
     let space = a.some in
-    let more : AreSpaces s = and_right (is_space b) (list_all is_space s) a.spaces in
+    let more : AreSpaces s = (and_parts (is_space b) (list_all is_space s) a.spaces).1 in
     let one : goes true (after_step first) (b ∷ (s ++ rest)) ≡ true = rw space (gap-spaces true s rest more (h true)) in
     let two : goes true (after_step later) (b ∷ (s ++ rest)) ≡ true = rw space (gap-spaces false s rest more (h false)) in
     (record { turn = one; later = two }, record { turn = two; later = two })
@@ -210,7 +208,7 @@ compared-first _ rest (f.more t s u x n c a d) h k =
 dash-goes : (r b rest : List ℕ) (high : Named) → AreGaps r → IsEnd b high → goes true (after_step upper) rest ≡ true → accepts dash (r ++ (b ++ rest)) ≡ true
 dash-goes [] b rest high a i h = absurd (let x : false ≡ true = a.some in cc)
 dash-goes (c ∷ r) b rest high a i h =
-    rw a.some (stays-on far is_space (λ b y. rw y refl) r (b ++ rest) (and_right (is_space c) (list_all is_space r) a.spaces) (lead-far (b ++ rest) (end-goes b high i upper rest h)))
+    rw a.some (stays-on far is_space (λ b y. rw y refl) r (b ++ rest) (and_parts (is_space c) (list_all is_space r) a.spaces).1 (lead-far (b ++ rest) (end-goes b high i upper rest h)))
 
 hyphen-goes : (a s r b rest : List ℕ) (low high : Named) → IsEnd a low → AreGaps s → AreGaps r → IsEnd b high → goes true (after_step upper) rest ≡ true
     → accepts start (a ++ (s ++ 45 ∷ (r ++ (b ++ rest)))) ≡ true
@@ -219,7 +217,7 @@ hyphen-goes a s r b rest low high i p q j h =
     opens-start.compares (a ++ behind) (lead-comparator first (a ++ behind) (end-goes a low i first behind (gap s p))) where
       gap : (s : List ℕ) → AreGaps s → goes true (after_step first) (s ++ 45 ∷ (r ++ (b ++ rest))) ≡ true
       gap [] p = absurd (let x : false ≡ true = p.some in cc)
-      gap (c ∷ s) p = rw p.some (gap-spaces true s (45 ∷ (r ++ (b ++ rest))) (and_right (is_space c) (list_all is_space s) p.spaces) (dash-goes r b rest high q j h))
+      gap (c ∷ s) p = rw p.some (gap-spaces true s (45 ∷ (r ++ (b ++ rest))) (and_parts (is_space c) (list_all is_space s) p.spaces).1 (dash-goes r b rest high q j h))
 
 -- ranges
 form-goes : (t r rest : List ℕ) → IsForm t → AreSpaces r → goes true closes rest ≡ true → accepts start (t ++ (r ++ rest)) ≡ true

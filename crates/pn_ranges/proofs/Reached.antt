@@ -2,7 +2,7 @@
 use Rattle.std.proofs.Common.{◌≡◌, ◌≤◌, ℕ, zero, suc, Bool, true, false, List, [], ◌∷◌, ◌++◌, length, Option, Some, None, refl, sym, ap, subst, ◌∙◌, arith, inl, inr, append_assoc, append-nil, length-append}
 use Rattle.std.specs.Prelude.{◌==◌, ◌⊎◌, not, if◌then◌else◌}
 use Rattle.std.specs.List.{list_all}
-use Rattle.std.proofs.lemmas.Bool.{cases_Bool}
+use Rattle.std.proofs.lemmas.Bool.{both_ways, cases_Bool}
 use Rattle.std.proofs.lemmas.Bool.Decides.{nat_tests}
 use Rattle.pn_ranges.specs.declared.comparator.Sign.{Sign}
 use Rattle.pn_ranges.specs.declared.comparator.Sign.TheVariants as x
@@ -18,7 +18,7 @@ use Rattle.pn_ranges.specs.Unread as u
 use Rattle.pn_ranges.proofs.Bars.{no-tail, no_bar, spaced-bars, tail-of}
 use Rattle.pn_ranges.proofs.Closings.{between-upper, closes-body, closes-spaces, gap-body}
 use Rattle.pn_ranges.proofs.Counts.{bars-split, comparator-open, end-open, hyphen-split, more-split, not-hyphen, same-first}
-use Rattle.pn_ranges.proofs.Fronts.{behind-append, behind-le, front-all, front-behind}
+use Rattle.pn_ranges.proofs.FrontOfLemmas.{behind-append, behind-le, front-all, front-behind}
 use Rattle.pn_ranges.proofs.OverProofs.{shut, space-shut}
 use Rattle.pn_ranges.proofs.Same.{Same, Shape, all-weaken, behind-all, comparator-shape, end-shape, first-more, first-not, head-same, partial-first, same-end, same-fit, same-shape, same-split, shape-at}
 
@@ -127,12 +127,8 @@ onward _ y r s n _ (u.more t p v z m to c fit a w) k h e =
     let q = same-begun y r t (p ++ v) s z n m k h c (gap-body p v a) e in
     more v (same-fit s z n m r (p ++ v) q ∙ fit) w (sym (behind-append is_space p v a.spaces) ∙ ap (behind is_space) (sym q.rest))
 
-pub both : (b : Bool) → b ≡ true → b ≡ false → ⊥
-both true h k = cc k
-both false h k = cc h
-
 ends-more : (r v : List ℕ) (to : Option ℕ) → Closes r → LaterTo v to → behind is_space v ≡ behind is_space r → ⊥
-ends-more r v to h w e = both (ends_range (behind is_space r)) h (ap ends_range (sym e) ∙ later-open v to w)
+ends-more r v to h w e = both_ways (ends_range (behind is_space r)) (ap ends_range (sym e) ∙ later-open v to w) h
 
 later-unique : (text : List ℕ) (a : Option ℕ) → LaterTo text a → (other : List ℕ) (b : Option ℕ) → LaterTo other b → behind is_space other ≡ behind is_space text → a ≡ b
 later-unique text _ (u.raised _ rest left k) other b w e =
@@ -140,19 +136,19 @@ later-unique text _ (u.raised _ rest left k) other b w e =
     elim (onward other text rest k.sign k.name b w shape k.ends e) [
       | over fit is ↦
           ap (λ z. Some z) (at-place text rest left k ∙ ap (λ (z : List ℕ). length (from_part (raised k.sign k.name) (behind shut z))) (sym e)) ∙ sym is
-      | last fit h is ↦ absurd (both (all_fit (limits k.sign k.name)) fit k.large)
-      | more v fit w2 q ↦ absurd (both (all_fit (limits k.sign k.name)) fit k.large)
+      | last fit h is ↦ absurd (both_ways (all_fit (limits k.sign k.name)) k.large fit)
+      | more v fit w2 q ↦ absurd (both_ways (all_fit (limits k.sign k.name)) k.large fit)
     ]
 later-unique _ _ (u.last t rest s n c fit h) other b w e =
     elim (onward other (t ++ rest) rest s n b w (comparator-shape t s n c rest) (closes-body rest h) e) [
-      | over large is ↦ absurd (both (all_fit (limits s n)) fit large)
+      | over large is ↦ absurd (both_ways (all_fit (limits s n)) large fit)
       | last fit2 h2 is ↦ sym is
       | more v fit2 w2 q ↦ absurd (ends-more rest v b h w2 q)
     ]
 later-unique _ _ (u.more t p v s n to c fit a w1) other b w e =
     let after = behind-append is_space p v a.spaces in
     elim (onward other (t ++ (p ++ v)) (p ++ v) s n b w (comparator-shape t s n c (p ++ v)) (gap-body p v a) e) [
-      | over large is ↦ absurd (both (all_fit (limits s n)) fit large)
+      | over large is ↦ absurd (both_ways (all_fit (limits s n)) large fit)
       | last fit2 h2 is ↦ absurd (ends-more (p ++ v) v to h2 w1 (sym after))
       | more y fit2 w2 q ↦ later-unique v to w1 y b w2 (q ∙ after)
     ]
@@ -202,10 +198,10 @@ upper-unique text a b v w =
     elim p.fit [
       | inl x ↦ elim q.fit [
         | inl y ↦ x.1 ∙ ap (λ z. Some (place (upper_raised z) text)) e.0 ∙ sym y.1
-        | inr y ↦ absurd (both (all_fit (upper_limits q.name)) y.0 (sym fits ∙ x.0))
+        | inr y ↦ absurd (both_ways (all_fit (upper_limits q.name)) (sym fits ∙ x.0) y.0)
       ]
       | inr x ↦ elim q.fit [
-        | inl y ↦ absurd (both (all_fit (upper_limits q.name)) (sym fits ∙ x.0) y.0)
+        | inl y ↦ absurd (both_ways (all_fit (upper_limits q.name)) y.0 (sym fits ∙ x.0))
         | inr y ↦ x.2 ∙ sym y.2
       ]
     ]
@@ -232,12 +228,12 @@ pub range-unique : (text : List ℕ) (a : Option ℕ) → RangeTo text a → (ot
 range-unique text _ (u.empty _ h) other _ (u.empty _ k) e = refl
 range-unique text _ (u.empty _ h) other b (u.comparators _ _ l w) e = absurd (ends-more text other b h w e)
 range-unique text _ (u.empty _ h) _ b (u.upper c s v n _ i p w) e =
-    absurd (both (ends_range (behind is_space text)) h (ap ends_range (sym e) ∙ upper-open c (s ++ 45 ∷ v) n i))
+    absurd (both_ways (ends_range (behind is_space text)) (ap ends_range (sym e) ∙ upper-open c (s ++ 45 ∷ v) n i) h)
 range-unique text a (u.comparators _ _ l w) other _ (u.empty _ k) e = absurd (ends-more other text a k w (sym e))
 range-unique text a (u.comparators _ _ l w) other b (u.comparators _ _ m v) e = later-unique text a w other b v e
 range-unique text a (u.comparators _ _ l w) _ b (u.upper c s v n _ i p y) e = absurd (lower-not text c s v n l i p (sym e))
 range-unique _ a (u.upper c s v n _ i p w) other _ (u.empty _ k) e =
-    absurd (both (ends_range (behind is_space other)) k (ap ends_range e ∙ upper-open c (s ++ 45 ∷ v) n i))
+    absurd (both_ways (ends_range (behind is_space other)) (ap ends_range e ∙ upper-open c (s ++ 45 ∷ v) n i) k)
 range-unique _ a (u.upper c s v n _ i p w) other b (u.comparators _ _ m y) e = absurd (lower-not other c s v n m i p e)
 range-unique _ a (u.upper c s v n _ i p w) _ b (u.upper d t z m _ j q y) e =
     upper-unique v a b w (subst (λ k. UpperTo k b) (sym (same-upper c s v d t z n m i p j q e)) y)

@@ -2,7 +2,7 @@
 use Rattle.std.proofs.Common.{◌≡◌, ℕ, Bool, true, false, List, [], ◌∷◌, ◌++◌, Option, Some, None, refl, sym, ap, ◌∙◌, arith, inl, inr, append_assoc, append-nil}
 use Rattle.std.specs.Prelude.{◌==◌, ◌||◌, if◌then◌else◌}
 use Rattle.std.specs.List.{list_all}
-use Rattle.std.proofs.lemmas.Bool.{cases_Bool, eqb-true}
+use Rattle.std.proofs.lemmas.Bool.{and_parts, cases_Bool, eqb-true}
 use Rattle.std.proofs.lemmas.Bool.Decides.{nat_tests}
 use Rattle.semver.specs.Grammar.{is_build_identifier, is_identifier_byte, is_pre_identifier}
 use Rattle.pn_ranges.specs.declared.comparator.Sign.{Sign}
@@ -13,9 +13,8 @@ use Rattle.pn_ranges.specs.Grammar as g
 use Rattle.pn_ranges.specs.Reading.{joined, signed, tilded}
 use Rattle.pn_ranges.specs.Table.{Named, named, limits, all_fit}
 use Rattle.pn_ranges.proofs.Accepts.{number-of}
-use Rattle.pn_ranges.proofs.Fronts.{behind-append, behind-same, behind-stops}
+use Rattle.pn_ranges.proofs.FrontOfLemmas.{behind-append, behind-same, behind-stops}
 use Rattle.pn_ranges.proofs.OverProofs.{all-append}
-use Rattle.pn_ranges.proofs.Words.{and_left, and_right}
 
 pub digit-body : (b : ℕ) → is_digit b ≡ true → is_body b ≡ true
 digit-body b h = grind (arith, nat_tests)
@@ -31,7 +30,7 @@ word-body b h = grind (arith, nat_tests)
 
 pub all-weaken : (f h : ℕ → Bool) → ((b : ℕ) → f b ≡ true → h b ≡ true) → (t : List ℕ) → list_all f t ≡ true → list_all h t ≡ true
 all-weaken f h more [] all = refl
-all-weaken f h more (b ∷ t) all = rw (more b (and_left (f b) (list_all f t) all)) (all-weaken f h more t (and_right (f b) (list_all f t) all))
+all-weaken f h more (b ∷ t) all = rw (more b (and_parts (f b) (list_all f t) all).0) (all-weaken f h more t (and_parts (f b) (list_all f t) all).1)
 
 pub part-body : (t : List ℕ) (a : Option ℕ) → IsPart t a → list_all is_body t ≡ true
 part-body _ _ (g.wild b w) = all-weaken is_wild is_body wild-body (b ∷ []) (rw w refl)
@@ -48,10 +47,10 @@ pub ids-body : (right : List ℕ → Bool) → ((y : List ℕ) → right y ≡ t
 ids-body right f t a = ids-all is_body refl right f t a
 
 pub build-id : (y : List ℕ) → is_build_identifier y ≡ true → list_all is_body y ≡ true
-build-id y h = all-weaken is_identifier_byte is_body word-body y (and_right _ (list_all is_identifier_byte y) h)
+build-id y h = all-weaken is_identifier_byte is_body word-body y (and_parts _ (list_all is_identifier_byte y) h).1
 
 pub pre-id : (y : List ℕ) → is_pre_identifier y ≡ true → list_all is_body y ≡ true
-pre-id y h = build-id y (and_left (is_build_identifier y) _ h)
+pre-id y h = build-id y (and_parts (is_build_identifier y) _ h).0
 
 pub build-body : (t : List ℕ) → IsBuild t → list_all is_body t ≡ true
 build-body _ g.absent = refl
@@ -75,7 +74,7 @@ end-body _ n (g.end l t _ all p) = all-append is_body l t (all-weaken is_lead is
 front-append : (test : ℕ → Bool) (s r : List ℕ) → list_all test s ≡ true → starts_with test r ≡ false → front_of test (s ++ r) ≡ s
 front-append test [] [] all h = refl
 front-append test [] (b ∷ r) all h = rw h refl
-front-append test (b ∷ s) r all h = rw (and_left (test b) (list_all test s) all) (ap (λ z. b ∷ z) (front-append test s r (and_right (test b) (list_all test s) all) h))
+front-append test (b ∷ s) r all h = rw (and_parts (test b) (list_all test s) all).0 (ap (λ z. b ∷ z) (front-append test s r (and_parts (test b) (list_all test s) all).1 h))
 
 pub behind-all : (test : ℕ → Bool) (s r : List ℕ) → list_all test s ≡ true → starts_with test r ≡ false → behind test (s ++ r) ≡ r
 behind-all test s r all h = behind-append test s r all ∙ behind-same test r h
@@ -122,7 +121,7 @@ id-word : (b : ℕ) → is_identifier_byte b ≡ true → is_word b ≡ true
 id-word b h = rw h refl
 
 pre-word : (y : List ℕ) → is_pre_identifier y ≡ true → list_all is_word y ≡ true
-pre-word y h = all-weaken is_identifier_byte is_word id-word y (and_right _ (list_all is_identifier_byte y) (and_left (is_build_identifier y) _ h))
+pre-word y h = all-weaken is_identifier_byte is_word id-word y (and_parts _ (list_all is_identifier_byte y) (and_parts (is_build_identifier y) _ h).0).1
 
 pre-is : (s p : List ℕ) → IsTail s p → pre_at s ≡ p
 pre-is _ _ (g.bare t b) = build t b where
@@ -209,7 +208,7 @@ lead-head b h = grind (arith, nat_tests)
 
 pub end-first : (t : List ℕ) (n : Named) → IsEnd t n → First is_head t
 end-first _ n (g.end [] t _ all p) = let f = partial-first t n p in record { byte = f.byte; rest = f.rest; split = f.split; is = open-head f.byte f.is }
-end-first _ n (g.end (b ∷ l) t _ all p) = record { byte = b; rest = l ++ t; split = refl; is = lead-head b (and_left (is_lead b) (list_all is_lead l) all) }
+end-first _ n (g.end (b ∷ l) t _ all p) = record { byte = b; rest = l ++ t; split = refl; is = lead-head b (and_parts (is_lead b) (list_all is_lead l) all).0 }
 
 open-lead : (b : ℕ) → is_open b ≡ true → is_lead b ≡ false
 open-lead b h = grind (arith, nat_tests)
@@ -258,7 +257,7 @@ not-61 (b ∷ s) t r n i h = h
 
 not-62 : (s t r : List ℕ) (n : Named) → AreSpaces s → IsEnd t n → starts_with (λ b. b == 62) ((s ++ t) ++ r) ≡ false
 not-62 [] t r n a i = first-not is_head (λ b. b == 62) (t ++ r) (first-more is_head t r (end-first t n i)) head-62
-not-62 (b ∷ s) t r n a i = space-62 b (and_left (is_space b) (list_all is_space s) a)
+not-62 (b ∷ s) t r n a i = space-62 b (and_parts (is_space b) (list_all is_space s) a).0
 
 -- an end behind no operator
 plain-sign : (b : ℕ) (t : List ℕ) → is_head b ≡ true → (b == 61) ≡ false → signed (b ∷ t) ≡ (x.Exact, b ∷ t)
@@ -296,8 +295,8 @@ end-shape t r n i = from (t ++ r) (head-same t r n i) (end t i) where
       let j = g.end [] t n all p in
       record { last = t; is = j; sign = ap (λ z. z.0) e; split = ap (λ z. behind is_space z.1) e ∙ ap (λ z. behind is_space (z ++ r)) (sym f.split) ∙ head-same t r n j }
   end _ (g.end (b ∷ l) t _ all p) =
-      let lead = and_left (is_lead b) (list_all is_lead l) all in
-      let more = and_right (is_lead b) (list_all is_lead l) all in
+      let lead = (and_parts (is_lead b) (list_all is_lead l) all).0 in
+      let more = (and_parts (is_lead b) (list_all is_lead l) all).1 in
       elim (cases_Bool (b == 61)) [
         | inl same ↦
             let j = g.end l t n more p in

@@ -15,8 +15,8 @@ use Rattle.pn_ranges.specs.Overs.{HasOver}
 use Rattle.pn_ranges.specs.Refusals.{IsLeftOf, NoOver, RangeRefused, refusal_of}
 use Rattle.pn_ranges.proofs.Faults.{fault-left}
 use Rattle.pn_ranges.proofs.Reached.{over-within}
-use Rattle.pn_ranges.proofs.Fronts.{front-behind, front-all, behind-le}
-use Rattle.pn_ranges.proofs.Steps.{run}
+use Rattle.pn_ranges.proofs.FrontOfLemmas.{front-behind, front-all, behind-le}
+use Rattle.pn_ranges.proofs.FirstFaultLemmas.{run}
 
 pub start-run : (text mid : List ℕ) → mid ≡ behind is_space text → first_fault start text ≡ first_fault start mid
 start-run text mid h = run start is_space (λ b h. rw h refl) text ∙ ap (first_fault start) (sym h)
@@ -37,10 +37,6 @@ spaced-range text mid rest k ls h a = record {
 
 pub few-more : (text mid : List ℕ) (n : ℕ) → mid ≡ behind is_space text → n ≤ length mid → n ≤ length text
 few-more text mid n h l = let e = ap (λ (y : List ℕ). length y) h in let b = behind-le is_space text in omega arith
-
-pub map-push : {A B : Type 0} (f : A → B) (xs : List A) (x : A) → map f (xs ++ x ∷ []) ≡ map f xs ++ f x ∷ []
-map-push f [] x = refl
-map-push f (y ∷ xs) x = ap (λ z. f y ∷ z) (map-push f xs x)
 
 pub before-start : (text : List ℕ) (rs : List (List Limit)) → rs ≡ [] → RangesBefore text text 0 rs
 before-start text rs e = record {

@@ -2,7 +2,7 @@
 use Rattle.std.proofs.Common.{◌≡◌, ℕ, true, false, List, [], ◌∷◌, ◌++◌, Option, Some, None, Result, Ok, Err, IfErr, refl, sym, ap, ◌∙◌, inl, inr}
 use Rattle.std.specs.List.{list_all}
 use Rattle.std.specs.Result.{IsErrAnd}
-use Rattle.std.proofs.lemmas.Bool.{cases_Bool}
+use Rattle.std.proofs.lemmas.Bool.{and_parts, cases_Bool}
 use Rattle.semver.specs.Grammar.{is_build_identifier, is_identifier_byte, is_pre_identifier, is_pre_release}
 use Rattle.semver.specs.Order.{parts}
 use Rattle.semver.proofs.Segments.{parts-dot, parts-one}
@@ -16,9 +16,8 @@ use Rattle.pn_ranges.specs.Places.{Turn, first, later, upper, after, closed, das
 use Rattle.pn_ranges.specs.Reading.{Begins, IsCompared, LowerAt, SpacedAt, UpperAt}
 use Rattle.pn_ranges.specs.Unread.{ends_range}
 use Rattle.pn_ranges.specs.Table.{Named, named}
-use Rattle.pn_ranges.proofs.Fronts.{front-behind, front-all, behind-stops, behind-next}
-use Rattle.pn_ranges.proofs.Steps.{run}
-use Rattle.pn_ranges.proofs.Words.{and_left, and_right}
+use Rattle.pn_ranges.proofs.FrontOfLemmas.{front-behind, front-all, behind-stops, behind-next}
+use Rattle.pn_ranges.proofs.FirstFaultLemmas.{run}
 
 pub exit_stop : {T : Type 0} (f : Option Stop) (r : Result T Stop) (x : Stop) → IsErrAnd r (λ y. y ≡ x) → f ≡ Some x → IfErr r (λ s. f ≡ Some s)
 exit_stop f (Ok v) x h stops = tt
@@ -98,10 +97,10 @@ upper-read text start mid rest n s t f r h = record {
 
 -- pre-releases that are read are in the form of SemVer
 build-bytes : (x : List ℕ) → is_build_identifier x ≡ true → list_all is_identifier_byte x ≡ true
-build-bytes x h = and_right _ (list_all is_identifier_byte x) h
+build-bytes x h = (and_parts _ (list_all is_identifier_byte x) h).1
 
 pre-build-id : (x : List ℕ) → is_pre_identifier x ≡ true → is_build_identifier x ≡ true
-pre-build-id x h = and_left (is_build_identifier x) _ h
+pre-build-id x h = (and_parts (is_build_identifier x) _ h).0
 
 all-pre : (p : List ℕ) → AreIdentifiers is_pre_identifier p → list_all is_pre_identifier (parts p) ≡ true
 all-pre _ (g.one x h) = rw (parts-one x (build-bytes x (pre-build-id x h)), h) refl

@@ -1,7 +1,7 @@
 -- Where the automaton stops, in the words of the grammar.
 use Rattle.std.proofs.Common.{◌≡◌, ◌<◌, ◌+◌, ◌-◌, ℕ, suc, true, false, List, [], ◌∷◌, ◌++◌, length, take, Some, None, refl, sym, ap, subst, ◌∙◌, arith, inl, inr, append_assoc}
 use Rattle.std.specs.Prelude.{if◌then◌else◌}
-use Rattle.std.proofs.lemmas.Bool.{cases_Bool}
+use Rattle.std.proofs.lemmas.Bool.{and_right, cases_Bool}
 use Rattle.pn_ranges.specs.declared.fault.Stop.TheVariants as stop
 use Rattle.pn_ranges.specs.Bytes.{is_digit, front_of}
 use Rattle.pn_ranges.specs.Forms.{AreForms, IsFront}
@@ -21,13 +21,11 @@ use Rattle.pn_ranges.specs.Bytes.{number_at, number_from}
 use Rattle.pn_ranges.specs.Table.{named}
 use Rattle.pn_ranges.proofs.Accepts.{accepts, on_some, small}
 use Rattle.pn_ranges.proofs.Passes.{forms-go}
-use Rattle.pn_ranges.proofs.Tails.{and_no}
 use Rattle.pn_ranges.proofs.Follow.{Digits, Rest, RestOf}
 use Rattle.pn_ranges.proofs.Follow as w
 use Rattle.pn_ranges.proofs.FollowParts.{build-step, digits-step, end-step, hyphen-step, naught-step, part-step, plus-step, pre-step-on, whole-step, zeros-step}
 use Rattle.pn_ranges.proofs.FollowRanges.{bar-step, closed-step, dash-step, equal-step, far-step, gap-step, operand-step, sign-step, start-step}
 use Rattle.pn_ranges.proofs.Numbers.{closed-digits, digit-shut, ill, opens, stays-well, wild}
-use Rattle.pn_ranges.proofs.Words.{and_false}
 
 -- a text in which the automaton stops behind so many bytes
 data StopsIn : State → List ℕ → ℕ → Type 0 where
@@ -71,14 +69,14 @@ none-past s _ _ (later _ next b at rest e large i) l more =
     let behind = take (at + 1) rest ++ more in
     subst (λ z. accepts s (take z (b ∷ rest) ++ more) ≡ false) (sym same)
     (ap (λ o. on_some o (λ n. small s n (b ∷ behind) && accepts n behind)) e ∙ ap (λ v. small s next (b ∷ behind) && v) (none-past next rest at i inner more)
-    ∙ and_no (small s next (b ∷ behind)))
+    ∙ and_right (small s next (b ∷ behind)) false refl)
 
 none-whole : (s : State) (text : List ℕ) (at : ℕ) → StopsIn s text at → accepts s text ≡ false
 none-whole s _ _ (early _ e) = e
 none-whole s _ _ (here _ b rest e) = ap (λ o. on_some o (λ n. small s n (b ∷ rest) && accepts n rest)) e
 none-whole s _ _ (later _ next b at rest e large i) =
     ap (λ o. on_some o (λ n. small s n (b ∷ rest) && accepts n rest)) e ∙ ap (λ v. small s next (b ∷ rest) && v) (none-whole next rest at i)
-    ∙ and_no (small s next (b ∷ rest))
+    ∙ and_right (small s next (b ∷ rest)) false refl
 
 -- some text goes on in each state
 zero-end : IsEnd (48 ∷ []) (named (Some 0) None None [])
@@ -213,7 +211,7 @@ none-large s _ _ (here _ next b rest e l) =
     ap (λ o. on_some o (λ n. small s n (b ∷ rest) && accepts n rest)) e ∙ ap (λ v. not v && accepts next rest) l
 none-large s _ _ (later _ next b at rest e l i) =
     ap (λ o. on_some o (λ n. small s n (b ∷ rest) && accepts n rest)) e ∙ ap (λ v. small s next (b ∷ rest) && v) (none-large next rest at i)
-    ∙ and_no (small s next (b ∷ rest))
+    ∙ and_right (small s next (b ∷ rest)) false refl
 
 -- what is of the form has no fault
 pub no-byte : (text : List ℕ) (n : ℕ) → AreForms text → first_fault p.start text ≡ Some (stop.Byte n) → ⊥
@@ -249,7 +247,7 @@ large-digits false b c h = cc h
 to-digit : (s : State) (text : List ℕ) (at : ℕ) → LargeIn s text at → (u : List ℕ) × Rest s text (take (at + 1) text ++ u)
 to-digit s _ _ (here _ next b rest e l) =
     let d = large-digits (is_digits next) (is_digits s) (nat_le (2 ^ 64) (number_at (b ∷ rest))) l in
-    let small : (n : State) → step s b ≡ Some n → is_large s n (b ∷ []) ≡ false = λ n h. and_false (is_digits n && not (is_digits s)) (nat_le (2 ^ 64) (number_at (b ∷ []))) (one-digit b) in
+    let small : (n : State) → step s b ≡ Some n → is_large s n (b ∷ []) ≡ false = λ n h. and_right (is_digits n && not (is_digits s)) (nat_le (2 ^ 64) (number_at (b ∷ []))) (one-digit b) in
     ([], any-text s (b ∷ []) (b ∷ rest) (b ∷ []) d.1 (rest-step s b [] [] small (subst (λ o. RestOf o [] []) (sym e) (no-text next d.0))))
 to-digit s _ _ (later _ next b at rest e l i) =
     let k = to-digit next rest at i in
@@ -271,7 +269,7 @@ to-wild s _ _ (here _ next b rest e l) =
     let d = large-digits (is_digits next) (is_digits s) (nat_le (2 ^ 64) (number_at (b ∷ rest))) l in
     let w = wild s (opens-large s next b rest e l) in
     let k = given w.next [] (λ h. let x : true ≡ false = sym h ∙ w.tame in cc) in
-    let small : (n : State) → step s 42 ≡ Some n → is_large s n (42 ∷ []) ≡ false = λ n h. and_false (is_digits n && not (is_digits s)) (nat_le (2 ^ 64) (number_at (42 ∷ []))) (one-digit 42) in
+    let small : (n : State) → step s 42 ≡ Some n → is_large s n (42 ∷ []) ≡ false = λ n h. and_right (is_digits n && not (is_digits s)) (nat_le (2 ^ 64) (number_at (42 ∷ []))) (one-digit 42) in
     (k.0, any-text s (42 ∷ []) (b ∷ rest) (42 ∷ k.0) d.1 (rest-step s 42 [] k.0 small (subst (λ o. RestOf o [] k.0) (sym w.goes) k.1)))
 to-wild s _ _ (later _ next b at rest e l i) =
     let k = to-wild next rest at i in
@@ -286,19 +284,16 @@ begins s next b _ _ w e (here _ m c rest k l) h = elim (cases_Bool (is_digit b))
 ]
 begins s next b _ _ w e (later _ m c at rest k l i) h = cc h
 
-first-byte : (b c : ℕ) (s t : List ℕ) → b ∷ s ≡ c ∷ t → b ≡ c
-first-byte b c s t h = cc h
-
-next-bytes : (b c : ℕ) (s t : List ℕ) → b ∷ s ≡ c ∷ t → s ≡ t
-next-bytes b c s t h = cc h
-
 apart : (s : State) (text : List ℕ) (at : ℕ) → ill s ≡ false → LargeIn s text at → (before : List ℕ) (c : ℕ) → take at text ≡ before ++ c ∷ [] → is_digit c ≡ false
 apart s _ _ w (here _ next b rest e l) [] c h = cc h
 apart s _ _ w (here _ next b rest e l) (d ∷ before) c h = cc h
 apart s _ _ w (later _ next b at rest e l i) [] c h =
-    subst (λ z. is_digit z ≡ false) (first-byte b c (take at rest) [] h) (begins s next b at rest w e i (next-bytes b c (take at rest) [] h))
+    let same : b ≡ c = cc h in
+    let none : take at rest ≡ [] = cc h in
+    subst (λ z. is_digit z ≡ false) same (begins s next b at rest w e i none)
 apart s _ _ w (later _ next b at rest e l i) (d ∷ before) c h =
-    apart next rest at (sym (ap (λ o. on_some o ill) e) ∙ stays-well s b) i before c (next-bytes b d (take at rest) (before ++ c ∷ []) h)
+    let later : take at rest ≡ before ++ c ∷ [] = cc h in
+    apart next rest at (sym (ap (λ o. on_some o ill) e) ∙ stays-well s b) i before c later
 
 long : (s : State) (text : List ℕ) (at : ℕ) → LargeIn s text at → nat_le (2 ^ 64) (number_at (drop at text)) ≡ true
 long s _ _ (here _ next b rest e l) = (large-digits (is_digits next) (is_digits s) (nat_le (2 ^ 64) (number_at (b ∷ rest))) l).2

@@ -1,15 +1,15 @@
 -- Pre-releases and builds: their grammar, and the automaton over them.
 use Rattle.std.proofs.Common.{◌≡◌, ◌-◌, ℕ, Bool, true, false, List, [], ◌∷◌, ◌++◌, length, take, refl, sym, ap, subst, ◌∙◌, arith, inl, inr, append_assoc, length-append}
-use Rattle.std.specs.Prelude.{◌==◌, ◌&&◌}
+use Rattle.std.specs.Prelude.{◌==◌}
 use Rattle.std.proofs.Math.Seq.{take-append_seam}
-use Rattle.std.proofs.lemmas.Bool.{cases_Bool}
+use Rattle.std.proofs.lemmas.Bool.{and_right, cases_Bool}
 use Rattle.semver.specs.Grammar.{is_build_identifier, is_identifier_byte, is_pre_identifier}
 use Rattle.pn_ranges.specs.Bytes.{is_word, starts_with}
 use Rattle.pn_ranges.specs.Grammar.{AreIdentifiers, IsBuild, IsTail}
 use Rattle.pn_ranges.specs.Reading.{Begins, Fronted, Spanned}
 use Rattle.pn_ranges.specs.Grammar as g
 use Rattle.pn_ranges.specs.Places.{Turn, whole, hyphen, pre, plus, build, first_fault, fault_after, fault_build}
-use Rattle.pn_ranges.proofs.Steps.{after-same}
+use Rattle.pn_ranges.proofs.FirstFaultLemmas.{after-same}
 
 identifiers-snoc : (right : List ℕ → Bool) (t x : List ℕ) → AreIdentifiers right t → right x ≡ true → AreIdentifiers right (t ++ 46 ∷ x)
 identifiers-snoc right t x (g.one _ h) r = g.more t x h (g.one x r)
@@ -55,16 +55,12 @@ pre-build e (b ∷ rest) h = elim (cases_Bool (is_identifier_byte b)) [
       ]
 ]
 
-pub and_no : (x : Bool) → (x && false) ≡ false
-and_no true = refl
-and_no false = refl
-
 -- behind three parts
 pub whole-build : (e : Turn) (text : List ℕ) → starts_with (λ b. b == 45) text ≡ false → first_fault (whole e 3) text ≡ fault_build e text
 whole-build e [] h = refl
 whole-build e (b ∷ rest) h = elim (cases_Bool (b == 43)) [
-  | inl mark ↦ rw (and_no (b == 46), h, mark) refl
-  | inr nomark ↦ rw (and_no (b == 46), h, nomark) (after-same (whole e 3) e b rest)
+  | inl mark ↦ rw (and_right (b == 46) false refl, h, mark) refl
+  | inr nomark ↦ rw (and_right (b == 46) false refl, h, nomark) (after-same (whole e 3) e b rest)
 ]
 
 pub whole-hyphen : (e : Turn) (text rest : List ℕ) (b : ℕ) → text ≡ b ∷ rest → b ≡ 45 → first_fault (whole e 3) text ≡ first_fault (hyphen e) rest

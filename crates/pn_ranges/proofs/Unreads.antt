@@ -1,6 +1,7 @@
 -- Where the reader stops nothing is read, neither up to a range's end nor up to a bound that is raised.
 use Rattle.std.proofs.Common.{◌≡◌, ℕ, true, false, List, [], ◌∷◌, ◌++◌, length, Option, Some, None, refl, sym, ap, subst, ◌∙◌, arith, inl, inr, append_assoc, append-nil}
 use Rattle.std.specs.Prelude.{◌==◌}
+use Rattle.std.proofs.lemmas.Bool.{both_ways}
 use Rattle.pn_ranges.specs.declared.comparator.Sign.{Sign}
 use Rattle.pn_ranges.specs.declared.comparator.Sign.TheVariants as x
 use Rattle.pn_ranges.specs.declared.fault.Stop.TheVariants as stop
@@ -22,10 +23,10 @@ use Rattle.pn_ranges.proofs.Closings.{apart-body, closes-body, closes-spaces, ga
 use Rattle.pn_ranges.proofs.Comparisons.{end-comparator}
 use Rattle.pn_ranges.proofs.Counts.{bars-split}
 use Rattle.pn_ranges.proofs.Faults.{fault-left}
-use Rattle.pn_ranges.proofs.Fronts.{behind-append, behind-same}
+use Rattle.pn_ranges.proofs.FrontOfLemmas.{behind-append, behind-same}
 use Rattle.pn_ranges.proofs.Inside.{past}
 use Rattle.pn_ranges.proofs.Passes.{forms-go}
-use Rattle.pn_ranges.proofs.Reached.{FirstTo, both, first-more-ranges, first-over, first-unique, later-begun, later-open, later-over, lower-not, onward, over, last, more, range-read, same-begun, upper-is}
+use Rattle.pn_ranges.proofs.Reached.{FirstTo, first-more-ranges, first-over, first-unique, later-begun, later-open, later-over, lower-not, onward, over, last, more, range-read, same-begun, upper-is}
 use Rattle.pn_ranges.proofs.Same.{Shape, behind-all, comparator-shape, head-same, same-end, same-split}
 
 -- the comparator at the front
@@ -44,20 +45,20 @@ later-none text sp none = λ other to w e.
 pub range-none : (text : List ℕ) → starts_with is_space text ≡ false → ends_range text ≡ false → NoCompared text → NeverTo RangeTo text
 range-none text sp some none = never where
   never : (other : List ℕ) (to : Option ℕ) → RangeTo other to → behind is_space other ≡ behind is_space text → ⊥
-  never other _ (u.empty _ h) e = both (ends_range (behind is_space other)) h (ap ends_range (e ∙ same-rest text text refl sp) ∙ some)
+  never other _ (u.empty _ h) e = both_ways (ends_range (behind is_space other)) (ap ends_range (e ∙ same-rest text text refl sp) ∙ some) h
   never other to (u.comparators _ _ l w) e = later-none text sp none other to w e
   never _ to (u.upper a s v n _ i p w) e =
       none a (s ++ 45 ∷ v) x.Exact n (end-comparator a n i) (gap-body s (45 ∷ v) p) (sym (same-rest text text refl sp) ∙ sym e)
 
 -- a comparator more
-later-rest : (spaces rest : List ℕ) → AreSpaces spaces → behind is_space (spaces ++ rest) ≡ behind is_space rest
+pub later-rest : (spaces rest : List ℕ) → AreSpaces spaces → behind is_space (spaces ++ rest) ≡ behind is_space rest
 later-rest spaces rest a = behind-append is_space spaces rest a
 
 pub later-more : (text rest : List ℕ) (s : Sign) (n : Named) → SpacedAt text s n rest → starts_with is_space rest ≡ false → all_fit (limits s n) ≡ true → NoLater rest → NeverTo LaterTo text
 later-more text rest s n a sp fit none = λ other to w e.
     elim (onward other text (a.spaces ++ rest) s n to w (spaced-shape text rest s n a) (apart-body a.spaces rest a.blank a.apart) e) [
-      | over large is ↦ both (all_fit (limits s n)) fit large
-      | last fit2 h is ↦ both (ends_range rest) (sym (ap ends_range (later-rest a.spaces rest a.blank ∙ same-rest rest rest refl sp)) ∙ h) none.0
+      | over large is ↦ both_ways (all_fit (limits s n)) large fit
+      | last fit2 h is ↦ both_ways (ends_range rest) none.0 (sym (ap ends_range (later-rest a.spaces rest a.blank ∙ same-rest rest rest refl sp)) ∙ h)
       | more v fit2 y q ↦ none.1 v to y (q ∙ later-rest a.spaces rest a.blank)
     ]
 
@@ -90,7 +91,7 @@ hyphen-none text rest back z n k st some sp low d none = never where
   whole = low.split ∙ ap (λ y. low.front ++ (low.spaces ++ y)) d
 
   never : (other : List ℕ) (to : Option ℕ) → RangeTo other to → behind is_space other ≡ behind is_space text → ⊥
-  never other _ (u.empty _ h) e = both (ends_range (behind is_space other)) h (ap ends_range (e ∙ same-rest text text refl st) ∙ some)
+  never other _ (u.empty _ h) e = both_ways (ends_range (behind is_space other)) (ap ends_range (e ∙ same-rest text text refl st) ∙ some) h
   never other to (u.comparators _ _ l w) e =
       lower-not other low.front low.spaces back n l low.read (record { spaces = low.blank; some = low.apart (ap ends_range d) }) (e ∙ ap (behind is_space) whole)
   never _ to (u.upper a s v m _ i p w) e =
@@ -121,7 +122,7 @@ no-lower text rest z n k sp h = λ s a p r m b i q e.
 pub later-range : (text : List ℕ) → starts_with is_space text ≡ false → ends_range text ≡ false → NoLower text → NeverTo LaterTo text → NeverTo RangeTo text
 later-range text st some low none = never where
   never : (other : List ℕ) (to : Option ℕ) → RangeTo other to → behind is_space other ≡ behind is_space text → ⊥
-  never other _ (u.empty _ h) e = both (ends_range (behind is_space other)) h (ap ends_range (e ∙ same-rest text text refl st) ∙ some)
+  never other _ (u.empty _ h) e = both_ways (ends_range (behind is_space other)) (ap ends_range (e ∙ same-rest text text refl st) ∙ some) h
   never other to (u.comparators _ _ l w) e = none other to w e
   never _ to (u.upper a s v m _ i p w) e = lower-not text a s v m low i p (sym e)
 
@@ -142,8 +143,8 @@ rest-closed text rest high a sp some fit = λ to w.
     let e = same-end a.front q.front back q.rest high q.name a.read q.is ends q.ends (sym left ∙ q.split) in
     let fits : all_fit (upper_limits high) ≡ all_fit (upper_limits q.name) = ap (λ z. all_fit (upper_limits z)) e.0 in
     elim q.fit [
-      | inl v ↦ both (all_fit (upper_limits high)) fit (fits ∙ v.0)
-      | inr v ↦ both (ends_range rest) (sym (ap ends_range (later-rest a.spaces rest a.blank ∙ same-rest rest rest refl sp)) ∙ ap (λ z. ends_range (behind is_space z)) e.1 ∙ v.1) some
+      | inl v ↦ both_ways (all_fit (upper_limits high)) (fits ∙ v.0) fit
+      | inr v ↦ both_ways (ends_range rest) some (sym (ap ends_range (later-rest a.spaces rest a.blank ∙ same-rest rest rest refl sp)) ∙ ap (λ z. ends_range (behind is_space z)) e.1 ∙ v.1)
     ]
 
 -- sets of ranges
@@ -205,4 +206,4 @@ pub bar-none : (text rest back : List ℕ) (k : ℕ) (ls : List Limit) → Space
 bar-none text rest back k ls a d none = λ left h.
     let b = bar-stops rest back d in
     let n = next-over text left h text rest k ls a b.0 b.1 b.2 refl in
-    both (starts_with (λ b. b == 124) back) (ap (starts_with (λ b. b == 124)) (bar-tail back (124 ∷ n.next) (sym d ∙ n.is))) none
+    both_ways (starts_with (λ b. b == 124) back) none (ap (starts_with (λ b. b == 124)) (bar-tail back (124 ∷ n.next) (sym d ∙ n.is)))

@@ -2,7 +2,7 @@
 ghost use Rattle.std.specs.Prelude.{◌≡◌, ◌++◌, IfOk, IfErr, OnOk, true};
 ghost use Rattle.std.specs.List.{list_all, list_any};
 ghost use Rattle.semver.specs.Grammar.{is_pre_release};
-ghost use Rattle.semver.specs.Identifiers.{pre_text};
+ghost use Rattle.semver.specs.Identifiers.{parts_of, pre_text};
 ghost use Rattle.semver.specs.Parse.{memory_error};
 ghost use Rattle.pn_ranges.specs.Edges.{EdgeHasPre, EdgesHavePre, all_limits_of, limit_of, limits_of};
 ghost use Rattle.pn_ranges.specs.Limits.{meets, meets_all, names_pre};
@@ -79,7 +79,7 @@ impl Bound {
 
     /// Whether a version keeps to the bound, by SemVer's precedence.
     pub(crate) fn meets(&self, version: &Version) -> bool
-        ensures { result ≡ meets version.now self.now }
+        ensures { result ≡ meets (parts_of version.now) self.now }
     {
         let order = version.cmp_precedence(&self.version);
         match self.comparison {
@@ -93,7 +93,7 @@ impl Bound {
 
     /// Whether the bound has a pre-release and the version's three numbers.
     pub(crate) fn names_pre(&self, version: &Version) -> bool
-        ensures { result ≡ names_pre version.now self.now }
+        ensures { result ≡ names_pre (parts_of version.now) self.now }
     {
         !self.version.pre.is_empty()
             && self.version.major == version.major
@@ -103,20 +103,20 @@ impl Bound {
 }
 
 fn all_meet(bounds: &[Bound], version: &Version) -> bool
-    ensures { result ≡ list_all (meets version.now) bounds.now }
+    ensures { result ≡ list_all (meets (parts_of version.now)) bounds.now }
 {
     bounds.iter().all(|b| b.meets(version))
 }
 
 fn some_names_pre(bounds: &[Bound], version: &Version) -> bool
-    ensures { result ≡ list_any (names_pre version.now) bounds.now }
+    ensures { result ≡ list_any (names_pre (parts_of version.now)) bounds.now }
 {
     bounds.iter().any(|b| b.names_pre(version))
 }
 
 /// Whether a version keeps to each bound and, where it has a pre-release, one of them names its numbers with one.
 pub(crate) fn meets_all(bounds: &[Bound], version: &Version) -> bool
-    ensures { result ≡ meets_all version.now bounds.now }
+    ensures { result ≡ meets_all (parts_of version.now) bounds.now }
 {
     all_meet(bounds, version) && (version.pre.is_empty() || some_names_pre(bounds, version))
 }

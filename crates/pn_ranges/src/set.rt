@@ -1,6 +1,7 @@
 // Range sets: ranges joined by `||`.
 ghost use Rattle.std.specs.Prelude.{◌≡◌, ◌≢◌, ◌≤◌, ◌+◌, ℕ, List, [], ◌∷◌, ◌++◌, length, map, IfOk, IfErr, OnOk, None, true, false, codes};
 ghost use Rattle.std.specs.List.{list_any};
+ghost use Rattle.semver.specs.Identifiers.{parts_of};
 ghost use Rattle.pn_ranges.specs.Grammar.{AreRanges, Spells};
 ghost use Rattle.pn_ranges.specs.Limits.{Limit, meets_all, satisfies};
 ghost use Rattle.pn_ranges.specs.Overs.{HasOver};
@@ -87,7 +88,7 @@ fn refusal(len: usize, stop: Stop) -> RangeFault
 }
 
 fn some_meets(ranges: &[Vec<Bound>], version: &Version) -> bool
-    ensures { result ≡ list_any (λ v. meets_all version.now v.items) ranges.now }
+    ensures { result ≡ list_any (λ v. meets_all (parts_of version.now) v.items) ranges.now }
 {
     ranges.iter().any(|bounds| meets_all(bounds, version))
 }
@@ -125,7 +126,7 @@ impl Range {
 
     /// Whether a version satisfies the range set. Build metadata counts for nothing.
     pub fn holds(&self, version: &Version) -> bool
-        ensures { result ≡ satisfies version.now self.now }
+        ensures { result ≡ satisfies (parts_of version.now) self.now }
     {
         some_meets(&self.ranges, version)
     }

@@ -3,21 +3,28 @@ ghost use Rattle.std.specs.Prelude.{◌≡◌, ◌≤◌, ◌<◌, ℕ, ◌^◌,
 ghost use Rattle.std.specs.Option.{ForSome};
 ghost use Rattle.pn_text.specs.declared.fault.DevFault.TheVariants.{Failed};
 ghost use Rattle.pn_fs.specs.Tree.{Tree, IsFile, file};
-ghost use Rattle.pn_fs.specs.Seen.{Keeps};
+ghost use Rattle.pn_fs.specs.Seen.{Keeps, GaveAtMost};
 ghost use Rattle.pn_read.specs.Pieces.{ReadRefused};
 
 use pn_fs::ReadFs;
 use pn_text::{AbsPath, DevFault};
 use std::alloc::{AllocError, Global};
+use thiserror::Error;
 
-#[derive(Clone, Copy, Debug, PartialEq, Eq)]
+const BUFFER: usize = 4096;
+
+/// Why a file wasn't read: a call failed, the file is larger than the limit, or no memory.
+#[derive(Clone, Copy, Debug, PartialEq, Eq, Error)]
 pub enum ReadFault {
+    #[error("the device failed")]
     Fault,
+    #[error("the file is too large")]
     TooLarge,
+    #[error("out of memory")]
     Memory,
 }
 
-/// The bytes of a file, if they are no more than the limit.
+/// The bytes of a file, if they are no more than the limit. At most one byte more than the limit is read.
 pub fn read_file<P: ReadFs>(
     alloc: Global,
     fs: &mut P,
@@ -28,13 +35,17 @@ pub fn read_file<P: ReadFs>(
     requires small { limit < 2 ^ 40 }
     ensures bytes { IfSome (P.seen fs.old).tree (λ t. IfOk result (λ all. t path.now ≡ Some (file all.items))) }
     ensures short { IfOk result (λ all. length all.items ≤ limit) }
+    ensures gave { IfSome (P.seen fs.old).tree (λ t. GaveAtMost (P.seen fs.old) (limit + 1) 0 (P.seen fs.new)) }
     ensures kept { Keeps (P.seen fs.old) (P.seen fs.new) }
     ensures fault { IfErr result (ReadRefused (P.seen fs.old) (P.seen fs.new) path.now limit) }
 {
     let mut all = Vec::new(alloc);
-    let mut piece = [0u8; 4096];
+    let mut buffer = [0u8; BUFFER];
     loop {
-        let count = match fs.read_piece(path, all.len() as u64, &mut piece) {
+        let at = all.len() as u64;
+        let room = (limit + 1 - at).min(BUFFER as u64) as usize;
+        let (piece, _) = buffer.split_at_mut(room);
+        let count = match fs.read_piece(path, at, piece) {
             Ok(count) => count,
             Err(DevFault::Failed) => return Err(ReadFault::Fault),
             Err(DevFault::Memory) => return Err(ReadFault::Memory),
@@ -42,10 +53,10 @@ pub fn read_file<P: ReadFs>(
         if count == 0 {
             return Ok(all);
         }
-        if all.len() as u64 + count as u64 > limit {
+        if at + count as u64 > limit {
             return Err(ReadFault::TooLarge);
         }
-        take_in(&mut all, &piece, count)?;
+        take_in(&mut all, piece, count)?;
     }
 }
 

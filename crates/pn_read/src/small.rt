@@ -1,20 +1,25 @@
 // Reads a file that should be small.
-ghost use Rattle.std.specs.Prelude.{◌≡◌, ◌≤◌, ◌<◌, ◌^◌, Some, IfOk, IfErr, IfSome, length};
+ghost use Rattle.std.specs.Prelude.{◌≡◌, ◌≤◌, ◌<◌, ◌+◌, ◌^◌, Some, IfOk, IfErr, IfSome, length};
 ghost use Rattle.pn_fs.specs.Tree.{file};
-ghost use Rattle.pn_fs.specs.Seen.{Keeps};
+ghost use Rattle.pn_fs.specs.Seen.{Keeps, GaveNothing, GaveAtMost};
 ghost use Rattle.pn_read.specs.Small.{IsFileOf, NotRead};
 
 use crate::pieces::{ReadFault, read_file};
 use pn_fs::{Kind, ReadFs};
 use pn_text::{AbsPath, DevFault};
 use std::alloc::Global;
+use thiserror::Error;
 
 /// Why a file wasn't read: none stands there, it has so many bytes, a call failed, or no memory.
-#[derive(Clone, Copy, Debug, PartialEq, Eq)]
+#[derive(Clone, Copy, Debug, PartialEq, Eq, Error)]
 pub enum SmallFault {
+    #[error("no file is there")]
     Missing,
+    #[error("the file has {0} bytes")]
     TooLarge(u64),
+    #[error("the device failed")]
     Fault,
+    #[error("out of memory")]
     Memory,
 }
 
@@ -28,6 +33,7 @@ pub fn read_small<P: ReadFs>(
     requires { limit < 2 ^ 40 }
     ensures bytes { IfSome (P.seen fs.old).tree (λ t. IfOk result (λ all. t path.now ≡ Some (file all.items))) }
     ensures short { IfOk result (λ all. length all.items ≤ limit) }
+    ensures gave { IfSome (P.seen fs.old).tree (λ t. GaveAtMost (P.seen fs.old) (limit + 1) 0 (P.seen fs.new)) }
     ensures kept { Keeps (P.seen fs.old) (P.seen fs.new) }
     ensures fault { IfErr result (NotRead (P.seen fs.old) (P.seen fs.new) path.now limit) }
 {
@@ -46,6 +52,7 @@ pub fn read_small<P: ReadFs>(
 // The length of the file at a path.
 fn file_length<P: ReadFs>(fs: &mut P, path: &AbsPath, limit: u64) -> Result<u64, SmallFault>
     ensures file { IfSome (P.seen fs.old).tree (λ t. IfOk result (λ n. IsFileOf n (t path.now))) }
+    ensures gave { IfSome (P.seen fs.old).tree (λ t. GaveNothing (P.seen fs.old) (P.seen fs.new)) }
     ensures kept { Keeps (P.seen fs.old) (P.seen fs.new) }
     ensures fault { IfErr result (NotRead (P.seen fs.old) (P.seen fs.new) path.now limit) }
 {

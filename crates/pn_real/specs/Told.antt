@@ -5,10 +5,11 @@ use Rattle.pn_fs.specs.Seen.{Seen, Taken}
 
 -- only the count of faults
 abbrev pub untold_tree : ℕ → Seen
-untold_tree faults = record { tree = None; touched = []; faults = faults }
+untold_tree faults = record { tree = None; touched = []; faults = faults; bytes = 0; names = 0 }
 
-abbrev pub untold_bytes : ℕ → Taken
-untold_bytes faults = record { bytes = None; faults = faults }
+-- only the counts of calls and of faults
+abbrev pub untold_bytes : ℕ → ℕ → Taken
+untold_bytes calls faults = record { bytes = None; calls = calls; faults = faults }
 
 pub no_tree : (t : Tree) → None ≡ Some t → IsTree t
 no_tree t e = absurd (cc)

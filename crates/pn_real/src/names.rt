@@ -4,7 +4,7 @@ ghost use Rattle.std.specs.List.{All};
 ghost use Rattle.pn_text.specs.Path.{is_part};
 ghost use Rattle.pn_fs.specs.Calls.{IsEntryName};
 
-use pn_text::{AbsPath, Text};
+use pn_text::{AbsPath, PATH_LIMIT, Text};
 use std::alloc::Global;
 use std::io::ErrorKind;
 use std::rt::Files;
@@ -62,5 +62,5 @@ fn is_good(folder: &AbsPath, name: &str) -> bool
         [] | [b'.'] | [b'.', b'.'] => false,
         bytes => !bytes.contains(&b'/'),
     };
-    is_part && folder.as_str().len() + 1 + name.len() <= 4096
+    is_part && folder.as_str().len() + 1 + name.len() <= PATH_LIMIT
 }

@@ -10,20 +10,26 @@ use std::io::Print;
 #[derive(Drop)]
 pub struct RealSink<W: Print + Drop> {
     stream: W,
+    calls: u64,
     faults: u64,
 }
 
 impl<W: Print + Drop> RealSink<W> {
     /// The stream that the process was given.
     pub fn new(stream: W) -> Self {
-        RealSink { stream, faults: 0 }
+        RealSink {
+            stream,
+            calls: 0,
+            faults: 0,
+        }
     }
 }
 
 impl<W: Print + Drop> Sink for RealSink<W> {
-    ghost seen = { λ s. untold_bytes s.faults };
+    ghost seen = { λ s. untold_bytes s.calls s.faults };
 
     fn write(&mut self, bytes: &[u8]) -> Result<(), DevFault> {
+        self.calls = self.calls.saturating_add(1);
         counted(&mut self.faults, self.stream.write_all(bytes))
     }
 }

@@ -1,6 +1,5 @@
 -- Texts of files in order, and what a search among them finds.
 use Rattle.std.proofs.Common.{◌≡◌, ℕ, ◌+◌, ◌<◌, ◌≤◌, List, [], ◌∷◌, ◌++◌, length, map, take, drop, get_or, refl, sym, ap, ◌∙◌, subst, arith, true, false, nat_cmp, length-append}
-use Rattle.std.specs.declared.cmp.Ordering.{Ordering}
 use Rattle.std.specs.declared.cmp.Ordering.TheVariants.{Less, Equal, Greater}
 use Rattle.std.proofs.lemmas.Bool.Decides.{nat_tests}
 use Rattle.std.specs.Prelude.{Result, Ok, Err, is_ok, suc, nat_lt}
@@ -10,7 +9,6 @@ use Rattle.std.specs.Ordering.{is_lt, is_eq}
 use Rattle.std.specs.Cmp.Lexicographic.{slice_cmp, texts_ties}
 use Rattle.std.specs.List.Sorted.{IsStrictlySortedBy, IsSortedBy, IsSearchInRange, IsBinarySearchResult}
 use Rattle.std.proofs.lemmas.Cmp.{nat_list_cmp_total, tied_itself}
-use Rattle.std.proofs.lemmas.List.{drop_more, take-append-drop}
 use Rattle.std.proofs.lemmas.List.Elements.{Contains-get_or}
 use Rattle.std.proofs.lemmas.List.Sorted.{searchable_from_sorted}
 use Rattle.pn_text.specs.Path.{text_below}
@@ -18,17 +16,14 @@ use Rattle.pn_registry.specs.Files.{File, IsRising}
 use Rattle.pn_registry.specs.Listed.{file_of, text_of}
 use Rattle.pn_registry.specs.Apart.{HasText, HasAbove}
 use Rattle.pn_registry.specs.declared.list.PackageFile.{PackageFile}
-use Rattle.pn_registry.proofs.Orders.{in_map, to_map, same_text}
-use Rattle.pn_registry.proofs.Finds.{not_before_back, not_before_itself}
-
-is_less : (o : Ordering) → is_lt o ≡ true → o ≡ Less
-is_less Less e = refl
-is_less Equal e = cc e
-is_less Greater e = cc e
+use Rattle.pn_text.proofs.Bytes.{around_slash, at_seam, before_seam}
+use Rattle.pn_text.proofs.Members.{from_map, to_map}
+use Rattle.pn_text.proofs.Orders.{is_less, not_before_self, not_both_before}
+use Rattle.pn_registry.proofs.Orders.{same_text}
 
 not_back : (x y : List ℕ) → slice_cmp nat_cmp x y ≡ Less → is_lt (slice_cmp nat_cmp y x) ≡ false
 not_back x y h = elim (is_lt (slice_cmp nat_cmp y x)) as (λ b. is_lt (slice_cmp nat_cmp y x) ≡ b → b ≡ false) [
-  | true ↦ λ e. absurd (not_before_back x y h (is_less (slice_cmp nat_cmp y x) e))
+  | true ↦ λ e. absurd (not_both_before x y h (is_less (slice_cmp nat_cmp y x) e))
   | false ↦ λ e. refl
 ] refl
 
@@ -58,13 +53,13 @@ searched x (f ∷ fs) (Ok at) rising within equal =
     let y = get_or (f ∷ fs) at f in
     (file_of y, to_map file_of (f ∷ fs) y (Contains-get_or (f ∷ fs) at f within), tied (text_of y) x (equal f))
 searched x fs (Err at) rising within parted = λ h.
-    let r = in_map file_of fs h.0 h.1 in
+    let r = from_map file_of fs h.0 h.1 in
     let y = r.0 in
     let k = r.1.0 in
     let same : text_of (get_or fs k y) ≡ x = ap text_of r.1.2 ∙ ap (λ (g : File). text_below g.0) r.2 ∙ h.2 in
     let parts = parted (searchable_from_sorted nat_list_cmp_total text_of fs x (sorted fs rising)) in
     elim (nat_lt k at) as (λ b. nat_lt k at ≡ b → ⊥) [
-      | true ↦ λ e. not_before_itself x (subst (λ z. slice_cmp nat_cmp z x ≡ Less) same (parts.0 k y (omega arith) (below k at e)))
+      | true ↦ λ e. not_before_self x (subst (λ z. slice_cmp nat_cmp z x ≡ Less) same (parts.0 k y (omega arith) (below k at e)))
       | false ↦ λ e. not_after_itself x (subst (λ z. slice_cmp nat_cmp z x ≡ Greater) same (parts.1 k y (not_below k at e) r.1.1))
     ] refl
   where
@@ -74,12 +69,8 @@ searched x fs (Err at) rising within parted = λ h.
     not_below : (k n : ℕ) → nat_lt k n ≡ false → n ≤ k
     not_below k n e = grind (arith, nat_tests, e)
 
--- a text around a slash
-around : (text : List ℕ) (i : ℕ) → i < length text → get_or text i 0 ≡ 47 → text ≡ take i text ++ 47 ∷ drop (i + 1) text
-around text i within slash = sym (take-append-drop i text) ∙ ap (λ r. take i text ++ r) (drop_more text i 0 within ∙ ap (λ b. b ∷ drop (i + 1) text) slash)
-
 pub above_here : (files : List File) (text : List ℕ) (i : ℕ) → i < length text → get_or text i 0 ≡ 47 → HasText files (47 ∷ take i text) → HasAbove files text
-above_here files text i within slash stands = record { front = take i text; rest = drop (i + 1) text; stands = stands; is = around text i within slash }
+above_here files text i within slash stands = record { front = take i text; rest = drop (i + 1) text; stands = stands; is = around_slash text i within slash }
 
 -- no front before a slash below i is the text of one of the files
 abbrev pub NoneAbove : List File → List ℕ → ℕ → Type 0
@@ -96,14 +87,6 @@ none_more files text i none here k lt slash has = elim (nat_lt k i) as (λ b. na
 
     last : (k n : ℕ) → nat_lt k n ≡ false → k < n + 1 → k ≡ n
     last k n e lt = let le : n ≤ k = grind (arith, nat_tests, e) in omega (arith, le, lt)
-
-at_seam : (front rest : List ℕ) → get_or (front ++ 47 ∷ rest) (length front) 0 ≡ 47
-at_seam [] rest = refl
-at_seam (x ∷ xs) rest = at_seam xs rest
-
-before_seam : (front rest : List ℕ) → take (length front) (front ++ 47 ∷ rest) ≡ front
-before_seam [] rest = refl
-before_seam (x ∷ xs) rest = ap (λ t. x ∷ t) (before_seam xs rest)
 
 within_seam : (front rest : List ℕ) → length front < length (front ++ 47 ∷ rest)
 within_seam front rest = omega (arith, length-append front (47 ∷ rest))

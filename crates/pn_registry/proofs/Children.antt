@@ -12,7 +12,7 @@ use Rattle.pn_read.specs.Small.{IsFileOf}
 use Rattle.pn_registry.specs.Below.{IsDistinct}
 use Rattle.pn_registry.specs.Files.{File}
 use Rattle.pn_registry.specs.Turns.{folder_at, file_at, folders_in, files_in}
-use Rattle.pn_registry.proofs.Lists.{none_in, in_one, in_cons, here, there}
+use Rattle.pn_text.proofs.Members.{none_in, in_one, in_cons, here, there}
 
 -- their paths
 abbrev pub children : Path → List (List ℕ) → List Path
@@ -28,9 +28,6 @@ head_same x y p q e = cc
 
 pub tail_same : (x y : List ℕ) (p q : Path) → x ∷ p ≡ y ∷ q → p ≡ q
 tail_same x y p q e = cc
-
-pub not_itself : (x : List ℕ) (p : Path) → x ∷ p ≡ p → ⊥
-not_itself x p e = omega (arith, ap length e)
 
 pub not_below : (at : Path) (x : List ℕ) (tail : Path) → at ≡ x ∷ (tail ++ at) → ⊥
 not_below at x tail e = omega (arith, ap length e, length-append tail at)

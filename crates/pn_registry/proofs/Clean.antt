@@ -7,8 +7,9 @@ use Rattle.std.proofs.lemmas.Bool.Decides.{nat_tests}
 use Rattle.pn_text.specs.Path.{Path}
 use Rattle.pn_fs.specs.Tree.{Tree}
 use Rattle.pn_fs.specs.Seen.{Seen}
+use Rattle.pn_registry.specs.Below.{HasFew}
 use Rattle.pn_registry.specs.Files.{File, IsRising, IsFilesOf, IsClean, file_limit}
-use Rattle.pn_registry.specs.FilesFaults.{FilesRefused, NotWalked, IsModular, IsLong, IsPassed, IsNamed, IsFirstModules, IsFirstLarge, is_modular, is_large}
+use Rattle.pn_registry.specs.FilesFaults.{FilesRefused, NotWalked, IsModular, IsLong, IsPassed, IsNamed, IsFirstModules, IsFirstLarge, is_modular, is_large, entry_limit}
 use Rattle.pn_registry.specs.declared.contents.FilesFault.{FilesFault}
 use Rattle.pn_registry.specs.declared.contents.FilesFault.TheVariants.{Modules, TooLarge, Entries, Fault, Memory}
 use Rattle.pn_registry.proofs.Finds.{find_none, find_first, first_in_tree, none_in_tree}
@@ -16,7 +17,7 @@ use Rattle.pn_registry.proofs.Finds.{find_none, find_first, first_in_tree, none_
 small : (n : ℕ) → nat_lt file_limit n ≡ false → n ≤ file_limit
 small n h = grind (arith, nat_tests, h)
 
-large : (n : ℕ) → nat_lt file_limit n ≡ true → file_limit < n
+pub large : (n : ℕ) → nat_lt file_limit n ≡ true → file_limit < n
 large n h = grind (arith, nat_tests, h)
 
 -- where no file is named all of them are clean
@@ -32,20 +33,20 @@ walk_refused at old new Entries h = h
 walk_refused at old new Fault h = h
 walk_refused at old new Memory h = tt
 
-modular_told : (tree : Option Tree) (at q : Path) (n : ℕ) (files : List File) → IfSome tree (λ t. IsFilesOf t at files) → IsRising files → find is_modular files ≡ Some (q, n) → IfSome tree (λ t. IsFirstModules t at q)
-modular_told None at q n files of rising h = tt
-modular_told (Some t) at q n files of rising h = record { length = n; first = first_in_tree is_modular t at files (q, n) of (find_first is_modular files (q, n) rising h) }
+modular_told : (tree : Option Tree) (at q : Path) (n : ℕ) (files : List File) → IfSome tree (λ t. IsFilesOf t at files) → IfSome tree (λ t. HasFew t at entry_limit) → IsRising files → find is_modular files ≡ Some (q, n) → IfSome tree (λ t. IsFirstModules t at q)
+modular_told None at q n files of few rising h = tt
+modular_told (Some t) at q n files of few rising h = record { few = few; length = n; first = first_in_tree is_modular t at files (q, n) of (find_first is_modular files (q, n) rising h) }
 
-large_told : (tree : Option Tree) (at q : Path) (n : ℕ) (files : List File) → IfSome tree (λ t. IsFilesOf t at files) → IsRising files → find is_modular files ≡ None → find is_large files ≡ Some (q, n) → IfSome tree (λ t. IsFirstLarge t at q n)
-large_told None at q n files of rising none h = tt
-large_told (Some t) at q n files of rising none h = record { plain = none_in_tree is_modular t at files of none; first = first_in_tree is_large t at files (q, n) of (find_first is_large files (q, n) rising h) }
+large_told : (tree : Option Tree) (at q : Path) (n : ℕ) (files : List File) → IfSome tree (λ t. IsFilesOf t at files) → IfSome tree (λ t. HasFew t at entry_limit) → IsRising files → find is_modular files ≡ None → find is_large files ≡ Some (q, n) → IfSome tree (λ t. IsFirstLarge t at q n)
+large_told None at q n files of few rising none h = tt
+large_told (Some t) at q n files of few rising none h = record { few = few; plain = none_in_tree is_modular t at files of none; first = first_in_tree is_large t at files (q, n) of (find_first is_large files (q, n) rising h) }
 
-pub named_refused : (at : Path) (old new : Seen) (files : List File) (e : FilesFault) → IfSome old.tree (λ t. IsFilesOf t at files) → IsRising files → IsNamed files e → FilesRefused at old new e
-named_refused at old new files (Modules q) of rising h = ((find_first is_modular files (q, h.0) rising h.1).is, modular_told old.tree at q h.0 files of rising h.1)
-named_refused at old new files (TooLarge q n) of rising h = (large n (find_first is_large files (q, n) rising h.1).is, large_told old.tree at q n files of rising h.0 h.1)
-named_refused at old new files Entries of rising h = absurd h
-named_refused at old new files Fault of rising h = absurd h
-named_refused at old new files Memory of rising h = tt
+pub named_refused : (at : Path) (old new : Seen) (files : List File) (e : FilesFault) → IfSome old.tree (λ t. IsFilesOf t at files) → IfSome old.tree (λ t. HasFew t at entry_limit) → IsRising files → IsNamed files e → FilesRefused at old new e
+named_refused at old new files (Modules q) of few rising h = ((find_first is_modular files (q, h.0) rising h.1).is, modular_told old.tree at q h.0 files of few rising h.1)
+named_refused at old new files (TooLarge q n) of few rising h = (large n (find_first is_large files (q, n) rising h.1).is, large_told old.tree at q n files of few rising h.0 h.1)
+named_refused at old new files Entries of few rising h = absurd h
+named_refused at old new files Fault of few rising h = absurd h
+named_refused at old new files Memory of few rising h = tt
 
 pub named_modular : (files : List File) (e : FilesFault) → IsModular (find is_modular files) e → IsNamed files e
 named_modular files (Modules q) h = h

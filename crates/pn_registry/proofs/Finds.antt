@@ -4,13 +4,13 @@ use Rattle.std.specs.Prelude.{◌⊎◌, Option, find}
 use Rattle.std.specs.Cmp.Lexicographic.{slice_cmp}
 use Rattle.std.specs.List.{Contains, AllByRecursion}
 use Rattle.std.specs.List.Sorted.{IsStrictlySortedBy}
-use Rattle.std.proofs.lemmas.Cmp.{nat_list_cmp_total, tied_itself}
 use Rattle.pn_text.specs.Path.{Path, text_below}
+use Rattle.pn_text.proofs.Orders.{not_before_self, not_both_before}
 use Rattle.pn_fs.specs.Tree.{Tree}
 use Rattle.pn_read.specs.Small.{IsFileOf}
 use Rattle.pn_registry.specs.Files.{File, IsRising, IsFilesOf}
 use Rattle.pn_registry.specs.FilesFaults.{IsFirstFile, HasNone}
-use Rattle.pn_registry.proofs.Lists.{none_in, in_cons, here, there}
+use Rattle.pn_text.proofs.Members.{none_in, in_cons, here, there}
 
 neither : (b : Bool) (x : File) (r : Option File) → cond b (Some x) r ≡ None → (b ≡ false) × (r ≡ None)
 neither true x r h = cc h
@@ -31,12 +31,6 @@ pub all_in : (P : List ℕ → Type 0) (fs : List File) (g : File) → AllByRecu
 all_in P [] g h i = absurd (none_in g i)
 all_in P (f ∷ fs) g h i = elim (in_cons f fs g i) [ inl e ↦ subst (λ (z : File). P (text_below z.0)) e h.0 | inr j ↦ all_in P fs g h.1 j ]
 
-pub not_before_itself : (x : List ℕ) → slice_cmp nat_cmp x x ≡ Less → ⊥
-not_before_itself x h = let same = tied_itself nat_list_cmp_total x in cc (same, h)
-
-pub not_before_back : (x y : List ℕ) → slice_cmp nat_cmp x y ≡ Less → slice_cmp nat_cmp y x ≡ Less → ⊥
-not_before_back x y h i = not_before_itself x (nat_list_cmp_total.trans x y x h i)
-
 -- what was found, and that nothing of the kind comes before it
 pub record IsFirst (so : File → Bool) (fs : List File) (f : File) : Type 0 where
   pub among : Contains fs f
@@ -48,8 +42,8 @@ head_first so x f fs above is e = record {
   among = subst (λ z. Contains (x ∷ fs) z) e (here x fs);
   is = ap so (sym e) ∙ is;
   first = λ g i yes less. elim (in_cons x fs g i) [
-    | inl same ↦ not_before_itself (text_below f.0) (subst (λ (z : File). slice_cmp nat_cmp (text_below z.0) (text_below f.0) ≡ Less) (sym same ∙ e) less)
-    | inr j ↦ not_before_back (text_below x.0) (text_below g.0) (all_in (λ y. slice_cmp nat_cmp (text_below x.0) y ≡ Less) fs g above j) (subst (λ (z : File). slice_cmp nat_cmp (text_below g.0) (text_below z.0) ≡ Less) (sym e) less)
+    | inl same ↦ not_before_self (text_below f.0) (subst (λ (z : File). slice_cmp nat_cmp (text_below z.0) (text_below f.0) ≡ Less) (sym same ∙ e) less)
+    | inr j ↦ not_both_before (text_below x.0) (text_below g.0) (all_in (λ y. slice_cmp nat_cmp (text_below x.0) y ≡ Less) fs g above j) (subst (λ (z : File). slice_cmp nat_cmp (text_below g.0) (text_below z.0) ≡ Less) (sym e) less)
   ];
 }
 
@@ -72,7 +66,7 @@ find_first so (x ∷ fs) f rising h = elim (either (so x) x f (find so fs) h) [
 ]
 
 -- a file of the tree is in the list
-listed_file : (t : Tree) (at : Path) (fs : List File) → IsFilesOf t at fs → (q : Path) (n : ℕ) → IsFileOf n (t (q ++ at)) → Contains fs (q, n)
+pub listed_file : (t : Tree) (at : Path) (fs : List File) → IsFilesOf t at fs → (q : Path) (n : ℕ) → IsFileOf n (t (q ++ at)) → Contains fs (q, n)
 listed_file t at fs of q n h = subst (λ k. Contains fs (q, k)) (sym h.2) (of.all q h.0 h.1)
 
 pub first_in_tree : (so : File → Bool) (t : Tree) (at : Path) (fs : List File) (f : File) → IsFilesOf t at fs → IsFirst so fs f → IsFirstFile so t at f

@@ -16,10 +16,10 @@ use Rattle.pn_registry.specs.Files.{File, IsRising, IsFilesOf}
 use Rattle.pn_registry.specs.Listed.{file_of, text_of}
 use Rattle.pn_registry.specs.declared.list.PackageFile.{PackageFile}
 use Rattle.pn_registry.specs.Apart.{AreApart, KeepsApart, HasAbove, TakesApart}
-use Rattle.pn_registry.proofs.Lists.{none_in, in_cons, here, there}
+use Rattle.pn_text.proofs.Members.{none_in, in_cons, here, there}
 use Rattle.pn_registry.proofs.Orders.{rising_nil}
 use Rattle.pn_registry.proofs.Finds.{all_in}
-use Rattle.pn_registry.proofs.Texts.{text_below-append, below_begins}
+use Rattle.pn_text.proofs.Joins.{text_below-append, below_begins}
 
 -- what is read on stands below a path
 onward : (ys : List ℕ) (x : List ℕ) (s q : Path) → (y : List ℕ) × (tail : Path) × (parts_from (x ∷ (s ++ q)) ys ≡ y ∷ (tail ++ q))

@@ -1,7 +1,5 @@
 -- Entries of a folder that are taken in one after the other.
-use Rattle.std.proofs.Common.{◌≡◌, ◌++◌, ℕ, List, [], ◌∷◌, refl, sym, ap, ◌∙◌, subst, append_assoc, append-nil, Some, None}
-use Rattle.std.specs.Prelude.{Option, IfSome}
-use Rattle.std.specs.Option.{ForSome}
+use Rattle.std.proofs.Common.{◌≡◌, ◌++◌, ℕ, List, [], ◌∷◌, refl, sym, ap, ◌∙◌, append_assoc, append-nil}
 use Rattle.pn_text.specs.Path.{Path}
 use Rattle.pn_fs.specs.Tree.{Tree}
 use Rattle.pn_registry.specs.Files.{File}
@@ -35,12 +33,3 @@ all_taken t p rest names todo todo' found found' none l = record {
   folders = sym (append-nil todo') ∙ ap (λ ns. todo' ++ folders_in t p ns) (sym none) ∙ l.folders;
   files = sym (append-nil found') ∙ ap (λ ns. found' ++ files_in t p ns) (sym none) ∙ l.files;
 }
-
--- facts of a tree that is told
-pub for_some : {T : Type 0} (P : T → Type 0) (o : Option T) → IfSome o P → ForSome o P
-for_some P None h t e = cc
-for_some P (Some u) h t e = let one : u ≡ t = cc in subst P one h
-
-pub if_some : {T : Type 0} (P : T → Type 0) (o : Option T) → ForSome o P → IfSome o P
-if_some P None h = tt
-if_some P (Some u) h = h u refl

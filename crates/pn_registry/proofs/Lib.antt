@@ -1,4 +1,3 @@
-pub mod Lists
 pub mod Children
 pub mod Walks
 pub mod Packages
@@ -11,3 +10,8 @@ pub mod Refusals
 pub mod Clean
 pub mod Above
 pub mod Keeping
+pub mod Distinct
+pub mod FilesLawLemmas
+pub mod ShortFiles
+pub mod ManifestLawLemmas
+pub mod GivenLemmas

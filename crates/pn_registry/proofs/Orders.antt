@@ -1,5 +1,5 @@
 -- Files in byte order.
-use Rattle.std.proofs.Common.{◌≡◌, ℕ, List, [], ◌∷◌, ◌++◌, length, map, refl, sym, ap, ◌∙◌, subst, inl, inr, true, Less, nat_cmp, Some}
+use Rattle.std.proofs.Common.{◌≡◌, ℕ, List, [], ◌∷◌, ◌++◌, length, map, refl, sym, ap, ◌∙◌, subst, true, Less, nat_cmp, Some}
 use Rattle.std.specs.Prelude.{nat_eq, IsTrue}
 use Rattle.std.specs.Cmp.{on_total}
 use Rattle.std.specs.Cmp.Lexicographic.{slice_cmp, pointwise, nat_list_cmp_total, texts_ties}
@@ -10,14 +10,15 @@ use Rattle.std.proofs.lemmas.List.Sorted.{Contains-permutation, IsPermutation-sy
 use Rattle.std.proofs.lemmas.Slice.Eq.{bytes_eq-Decides}
 use Rattle.std.specs.Cmp.{on_equiv}
 use Rattle.std.specs.Cmp.Lexicographic.{nat_list_eq_equiv}
-use Rattle.pn_text.specs.Path.{Path, is_path, is_part, text_below, parts_from}
-use Rattle.pn_text.proofs.Paths.{and_left, and_right, parts_from-text_below}
+use Rattle.pn_text.specs.Path.{Path, is_path, is_part, text_below}
+use Rattle.pn_text.proofs.Bools.{and_left, and_right}
+use Rattle.pn_text.proofs.Paths.{below_one}
 use Rattle.pn_fs.specs.Tree.{Tree, IsTree, file}
 use Rattle.pn_read.specs.Small.{IsFileOf}
 use Rattle.pn_registry.specs.Files.{File, IsRising, IsFilesOf, KeepsPaths}
 use Rattle.pn_registry.specs.Listed.{file_of, text_of}
 use Rattle.pn_registry.specs.declared.list.PackageFile.{PackageFile}
-use Rattle.pn_registry.proofs.Lists.{none_in, in_cons, here, there}
+use Rattle.pn_text.proofs.Members.{from_map, to_map}
 
 pub rising_nil : IsRising []
 unfolding IsStrictlySortedBy
@@ -36,20 +37,6 @@ rising_files (f ∷ fs) h = (below_all (text_of f) fs h.0, rising_files fs h.1)
 pub rising_once : (fs : List PackageFile) → IsSorted (λ a b. slice_cmp nat_cmp (text_of a) (text_of b)) fs → IsRising (map file_of (dedup (λ a b. pointwise nat_eq (text_of a) (text_of b)) fs))
 rising_once fs h = rising_files _ (IsStrictlySortedBy-dedup (on_total text_of nat_list_cmp_total) (λ x y. texts_ties (text_of x) (text_of y)) fs h)
 
-pub in_map : {X Y : Type 0} (g : X → Y) (xs : List X) (y : Y) → Contains (map g xs) y → (x : X) × Contains xs x × (g x ≡ y)
-in_map g [] y h = absurd (none_in y h)
-in_map g (x ∷ xs) y h = elim (in_cons (g x) (map g xs) y h) [
-  | inl e ↦ (x, here x xs, e)
-  | inr i ↦ let r = in_map g xs y i in (r.0, there x xs r.0 r.1, r.2)
-]
-
-pub to_map : {X Y : Type 0} (g : X → Y) (xs : List X) (x : X) → Contains xs x → Contains (map g xs) (g x)
-to_map g [] x h = absurd (none_in x h)
-to_map g (y ∷ ys) x h = elim (in_cons y ys x h) [
-  | inl e ↦ subst (λ z. Contains (map g (y ∷ ys)) (g z)) e (here (g y) (map g ys))
-  | inr i ↦ there (g y) (map g ys) (g x) (to_map g ys x i)
-]
-
 pub same_text : (x y : List ℕ) → pointwise nat_eq x y ≡ true → x ≡ y
 same_text x y h = (bytes_eq-Decides x y).0 h
 
@@ -59,11 +46,11 @@ keeps_paths files sorted p =
     let kept = dedup (λ a b. pointwise nat_eq (text_of a) (text_of b)) sorted in
     record {
       from = λ f h.
-          let r = in_map file_of kept f h in
+          let r = from_map file_of kept f h in
           subst (λ z. Contains (map file_of files) z) r.2
           (to_map file_of files r.0 (Contains-permutation sorted files r.0 (IsPermutation-sym files sorted p) (Contains-from_dedup (λ a b. pointwise nat_eq (text_of a) (text_of b)) sorted r.0 r.1)));
       paths = λ f h.
-          let r = in_map file_of files f h in
+          let r = from_map file_of files f h in
           let found = Any-dedup (on_equiv text_of nat_list_eq_equiv) sorted r.0 (Contains-permutation files sorted r.0 p r.1) in
           (file_of found.1, to_map file_of kept found.1 (found.0, found.2, found.3), sym (same_text (text_of r.0) (text_of found.1) found.4) ∙ ap (λ (g : File). text_below g.0) r.2);
     }
@@ -73,16 +60,13 @@ path_front [] p h = refl
 path_front (x ∷ q) p h = let a = and_left (is_part x) (is_path (q ++ p)) h in let b = path_front q p (and_right (is_part x) (is_path (q ++ p)) h) in rw (a, b) refl
 
 -- the path of a file below a folder is good
-good_below : (t : Tree) → IsTree t → (at q : Path) (n : ℕ) → IsFileOf n (t (q ++ at)) → IsTrue (is_path q)
+pub good_below : (t : Tree) → IsTree t → (at q : Path) (n : ℕ) → IsFileOf n (t (q ++ at)) → IsTrue (is_path q)
 good_below t tree at q n f = path_front q at (tree.paths (q ++ at) (file f.0) f.1).0
-
-pub same_path : (p q : Path) → IsTrue (is_path p) → IsTrue (is_path q) → text_below p ≡ text_below q → p ≡ q
-same_path p q a b e = sym (parts_from-text_below p a) ∙ ap (parts_from []) e ∙ parts_from-text_below q b
 
 same_bytes : (x y : List ℕ) → Some (file x) ≡ Some (file y) → x ≡ y
 same_bytes x y e = cc
 
-same_length : (t : Tree) (p : Path) (m n : ℕ) → IsFileOf m (t p) → IsFileOf n (t p) → m ≡ n
+pub same_length : (t : Tree) (p : Path) (m n : ℕ) → IsFileOf m (t p) → IsFileOf n (t p) → m ≡ n
 same_length t p m n a b = let same : a.0 ≡ b.0 = same_bytes a.0 b.0 (sym a.1 ∙ b.1) in a.2 ∙ ap length same ∙ sym b.2
 
 -- in a tree nothing is left out
@@ -94,7 +78,7 @@ kept_files t tree at files list of keeps = record {
       let g = r.0 in
       let stands = of.stands g.0 g.1 (keeps.from g r.1) in
       let mine : IsFileOf (length bytes) (t (q ++ at)) = (bytes, is, refl) in
-      let path : g.0 ≡ q = same_path g.0 q (good_below t tree at g.0 g.1 stands) (good_below t tree at q (length bytes) mine) r.2 in
+      let path : g.0 ≡ q = below_one g.0 q (good_below t tree at g.0 g.1 stands) (good_below t tree at q (length bytes) mine) r.2 in
       let size : g.1 ≡ length bytes = same_length t (q ++ at) g.1 (length bytes) (subst (λ z. IsFileOf g.1 (t (z ++ at))) path stands) mine in
       let both : g ≡ (q, length bytes) = λ i. (path i, size i) in
       subst (λ z. Contains list z) both r.1;

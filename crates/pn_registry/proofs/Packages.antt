@@ -7,21 +7,25 @@ use Rattle.semver.specs.Parse.{Parts, version_parts}
 use Rattle.semver.specs.Identifiers.{parts_of}
 use Rattle.semver.specs.declared.error.Error.{Error}
 use Rattle.semver.proofs.Grammar.{version_parts-sound}
+use Rattle.pn_text.specs.Ids.{id_name, id_version, ok_of, parts_text, is_version}
 use Rattle.pn_text.specs.Path.{Path}
 use Rattle.pn_text.specs.Name.{is_name}
-use Rattle.pn_fs.specs.Tree.{Tree, file}
+use Rattle.pn_fs.specs.Tree.{Entry, Tree, file}
 use Rattle.pn_fs.specs.Seen.{Seen}
 use Rattle.pn_manifest.specs.Exact.{Id}
-use Rattle.pn_manifest.specs.Fields.{Spot, or_else, field, ok_of, parts_text, is_version, wrong_text, wrong_map, text_field, first_wrong, name_of}
+use Rattle.pn_manifest.specs.Fields.{Spot, or_else, field, wrong_text, wrong_map, text_field, first_wrong, name_of}
 use Rattle.pn_manifest.specs.Pairs.{is_own}
 use Rattle.pn_manifest.specs.Text.{IsObjectText}
+use Rattle.pn_manifest.specs.Refusals.{WrongBytes}
 use Rattle.pn_manifest.specs.Says.{Reads, Says}
 use Rattle.pn_manifest.specs.declared.manifest.Manifest.{Manifest}
+use Rattle.pn_manifest.specs.declared.fault.ManifestWhy.{ManifestWhy}
+use Rattle.pn_manifest.specs.declared.fault.ManifestWhy.TheVariants.{Missing, NotJson, BadField}
 use Rattle.pn_registry.specs.Places.{manifest_path}
 use Rattle.pn_registry.specs.Package.{text_limit, unless, other_of, first_wrong_of, has_text, stated_other, IsRead, IsFound}
-use Rattle.pn_registry.specs.PackageFaults.{PackageRefused, TextRefused, IsOther}
+use Rattle.pn_registry.specs.PackageFaults.{PackageRefused, TextRefused, IsOther, WrongFile, WrongText}
 use Rattle.pn_registry.specs.declared.package.PackageFault.{PackageFault}
-use Rattle.pn_registry.specs.declared.package.PackageFault.TheVariants.{Missing, TooLarge, NotJson, BadField, Fault, Memory}
+use Rattle.pn_registry.specs.declared.package.PackageFault.TheVariants.{Wrong, TooLarge, Fault, Memory}
 
 -- a version that was read has the text that it was read from
 read_same : (s text : List ℕ) (r : Result Parts Error) (v : Option Parts) → version_parts s ≡ r → is_some (ok_of r) ≡ true → v ≡ ok_of r → has_text v text ≡ bytes_eq s text
@@ -54,27 +58,29 @@ version_right d h =
 -- what the manifest states is what its text states
 other_is : (id : Id) (d : Data) (m : Manifest) → first_wrong d ≡ None → Says d m → stated_other id m.name (option_map parts_of m.version) ≡ other_of id d
 other_is id d m right says =
-    ap (λ n. or_else (unless (is_own n id.name) (codes "name")) (unless (has_text (option_map parts_of m.version) id.version) (codes "version"))) says.name
-    ∙ ap (λ b. or_else (unless (is_own (name_of d) id.name) (codes "name")) (unless b (codes "version"))) (field_same (field (codes "version") d) (option_map parts_of m.version) id.version (version_right d right) says.version)
+    ap (λ n. or_else (unless (is_own n (id_name id)) (codes "name")) (unless (has_text (option_map parts_of m.version) (id_version id)) (codes "version"))) says.name
+    ∙ ap (λ b. or_else (unless (is_own (name_of d) (id_name id)) (codes "name")) (unless b (codes "version"))) (field_same (field (codes "version") d) (option_map parts_of m.version) (id_version id) (version_right d right) says.version)
 
 wrong_is : (id : Id) (d : Data) (m : Manifest) → first_wrong d ≡ None → Says d m → first_wrong_of id d ≡ stated_other id m.name (option_map parts_of m.version)
 wrong_is id d m right says = ap (λ w. or_else w (other_of id d)) right ∙ sym (other_is id d m right says)
 
 -- where it states another name or version
 pub other_refused : (id : Id) (bytes : List ℕ) (m : Manifest) (e : PackageFault) → Reads bytes m → IsOther (stated_other id m.name (option_map parts_of m.version)) e → TextRefused id bytes e
-other_refused id bytes m Missing r h = h
+other_refused id bytes m (Wrong Missing) r h = h
+other_refused id bytes m (Wrong NotJson) r h = absurd h
+other_refused id bytes m (Wrong (BadField f k)) r h = (r.value, r.text, wrong_is id r.value m r.right r.says ∙ h)
 other_refused id bytes m (TooLarge n) r h = h
-other_refused id bytes m NotJson r h = absurd h
-other_refused id bytes m (BadField f k) r h = (r.value, r.text, wrong_is id r.value m r.right r.says ∙ h)
 other_refused id bytes m Fault r h = h
 other_refused id bytes m Memory r h = tt
 
 pub own_read : (id : Id) (bytes : List ℕ) (m : Manifest) → Reads bytes m → stated_other id m.name (option_map parts_of m.version) ≡ None → (d : Data) × IsObjectText bytes d × IsRead id d m
 own_read id bytes m r h = (r.value, r.text, record { right = wrong_is id r.value m r.right r.says ∙ h; says = r.says })
 
--- fields that were wrong before that
-pub bad_refused : (id : Id) (bytes f k : List ℕ) → (d : Data) × IsObjectText bytes d × (first_wrong d ≡ Some (f, k)) → TextRefused id bytes (BadField f k)
-bad_refused id bytes f k h = (h.0, h.1, ap (λ w. or_else w (other_of id h.0)) h.2)
+-- what was wrong before that
+pub bytes_refused : (id : Id) (bytes : List ℕ) (why : ManifestWhy) → WrongBytes bytes why → TextRefused id bytes (Wrong why)
+bytes_refused id bytes Missing h = h
+bytes_refused id bytes NotJson h = h
+bytes_refused id bytes (BadField f k) h = (h.0, h.1, ap (λ w. or_else w (other_of id h.0)) h.2)
 
 -- the file's bytes in the tree
 pub found_ok : (tree : Option Tree) (id : Id) (p : Path) (bytes items : List ℕ) (r : Result Manifest PackageFault) → p ≡ manifest_path id
@@ -88,35 +94,30 @@ found_ok (Some t) id p bytes items (Ok m) at told short same h = record {
   read = h.2;
 }
 
-lifted : (t : Tree) (touched : List Path) (faults : ℕ) (new : Seen) (id : Id) (p : Path) (bytes items : List ℕ) (e : PackageFault) → p ≡ manifest_path id → t p ≡ Some (file items) → length items ≤ text_limit → bytes ≡ items
-    → TextRefused id bytes e → PackageRefused id (record { tree = Some t; touched = touched; faults = faults }) new e
-lifted t touched faults new id p bytes items Missing at told short same h = absurd h
-lifted t touched faults new id p bytes items (TooLarge n) at told short same h = absurd h
-lifted t touched faults new id p bytes items NotJson at told short same h =
-    record { bytes = bytes; is = ap t (sym at) ∙ told ∙ ap (λ b. Some (file b)) (sym same); short = subst (λ b. length b ≤ text_limit) (sym same) short; none = h }
-lifted t touched faults new id p bytes items (BadField f k) at told short same h = record {
+wrong_there : (id : Id) (bytes items : List ℕ) (entry : Option Entry) (why : ManifestWhy) → entry ≡ Some (file items) → length items ≤ text_limit → bytes ≡ items → WrongText id bytes why → WrongFile id entry why
+wrong_there id bytes items entry Missing told short same h = absurd h
+wrong_there id bytes items entry NotJson told short same h =
+    record { bytes = bytes; is = told ∙ ap (λ b. Some (file b)) (sym same); short = subst (λ b. length b ≤ text_limit) (sym same) short; none = h }
+wrong_there id bytes items entry (BadField f k) told short same h = record {
   value = h.0;
-  text = record { bytes = bytes; is = ap t (sym at) ∙ told ∙ ap (λ b. Some (file b)) (sym same); short = subst (λ b. length b ≤ text_limit) (sym same) short; text = h.1 };
+  text = record { bytes = bytes; is = told ∙ ap (λ b. Some (file b)) (sym same); short = subst (λ b. length b ≤ text_limit) (sym same) short; text = h.1 };
   wrong = h.2;
 }
-lifted t touched faults new id p bytes items Fault at told short same h = absurd h
-lifted t touched faults new id p bytes items Memory at told short same h = tt
 
-untold : (touched : List Path) (faults : ℕ) (new : Seen) (id : Id) (bytes : List ℕ) (e : PackageFault) → TextRefused id bytes e → PackageRefused id (record { tree = None; touched = touched; faults = faults }) new e
-untold touched faults new id bytes Missing h = absurd h
-untold touched faults new id bytes (TooLarge n) h = absurd h
-untold touched faults new id bytes NotJson h = tt
-untold touched faults new id bytes (BadField f k) h = tt
-untold touched faults new id bytes Fault h = absurd h
-untold touched faults new id bytes Memory h = tt
+wrong_told : (tree : Option Tree) (id : Id) (p : Path) (bytes items : List ℕ) (why : ManifestWhy) → p ≡ manifest_path id → IfSome tree (λ t. t p ≡ Some (file items)) → length items ≤ text_limit → bytes ≡ items
+    → WrongText id bytes why → IfSome tree (λ t. WrongFile id (t (manifest_path id)) why)
+wrong_told None id p bytes items why at told short same h = tt
+wrong_told (Some t) id p bytes items why at told short same h = wrong_there id bytes items (t (manifest_path id)) why (ap t (sym at) ∙ told) short same h
 
-by_tree : (tree : Option Tree) (touched : List Path) (faults : ℕ) (new : Seen) (id : Id) (p : Path) (bytes items : List ℕ) (e : PackageFault) → p ≡ manifest_path id → IfSome tree (λ t. t p ≡ Some (file items)) → length items ≤ text_limit → bytes ≡ items
-    → TextRefused id bytes e → PackageRefused id (record { tree = tree; touched = touched; faults = faults }) new e
-by_tree None touched faults new id p bytes items e at told short same h = untold touched faults new id bytes e h
-by_tree (Some t) touched faults new id p bytes items e at told short same h = lifted t touched faults new id p bytes items e at told short same h
+by_tree : (old new : Seen) (id : Id) (p : Path) (bytes items : List ℕ) (e : PackageFault) → p ≡ manifest_path id → IfSome old.tree (λ t. t p ≡ Some (file items)) → length items ≤ text_limit → bytes ≡ items
+    → TextRefused id bytes e → PackageRefused id old new e
+by_tree old new id p bytes items (Wrong why) at told short same h = wrong_told old.tree id p bytes items why at told short same h
+by_tree old new id p bytes items (TooLarge n) at told short same h = absurd h
+by_tree old new id p bytes items Fault at told short same h = absurd h
+by_tree old new id p bytes items Memory at told short same h = tt
 
 pub refused_err : (old new : Seen) (id : Id) (p : Path) (bytes items : List ℕ) (r : Result Manifest PackageFault) → p ≡ manifest_path id
     → IfSome old.tree (λ t. t p ≡ Some (file items)) → length items ≤ text_limit → bytes ≡ items
     → IfErr r (TextRefused id bytes) → IfErr r (PackageRefused id old new)
 refused_err old new id p bytes items (Ok m) at told short same h = tt
-refused_err old new id p bytes items (Err e) at told short same h = by_tree old.tree old.touched old.faults new id p bytes items e at told short same h
+refused_err old new id p bytes items (Err e) at told short same h = by_tree old new id p bytes items e at told short same h

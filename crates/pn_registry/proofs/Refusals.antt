@@ -1,21 +1,17 @@
 -- Why a walk stopped.
-use Rattle.std.proofs.Common.{◌≡◌, ◌≤◌, ◌-◌, ℕ, List, [], ◌∷◌, ◌++◌, ◌∙◌, Some, arith}
+use Rattle.std.proofs.Common.{◌≡◌, ◌≤◌, ◌-◌, ℕ, List, [], ◌∷◌, ◌++◌, ◌∙◌, Some}
 use Rattle.std.specs.Option.{ForSome}
 use Rattle.pn_text.specs.Path.{Path}
-use Rattle.pn_text.specs.Causes.{Rose}
 use Rattle.pn_fs.specs.Tree.{Tree, IsTree}
 use Rattle.pn_fs.specs.Seen.{Seen, Keeps}
+use Rattle.pn_fs.proofs.SeenLemmas.{rose_from}
 use Rattle.pn_registry.specs.Below.{HasMany}
 use Rattle.pn_registry.specs.Files.{File}
 use Rattle.pn_registry.specs.Turns.{IsFull, ListRefused, WalkRefused}
 use Rattle.pn_registry.specs.declared.walk.WalkFault.{WalkFault}
 use Rattle.pn_registry.specs.declared.walk.WalkFault.TheVariants.{Entries, Fault, Memory}
-use Rattle.pn_registry.proofs.Leads.{for_some, if_some}
+use Rattle.pn_text.proofs.Results.{for_some, if_some}
 use Rattle.pn_registry.proofs.Walks.{Walks, too_many}
-
--- a count that rose after a while rose
-pub rose_from : (old mid new : ℕ) → old ≤ mid → Rose mid new → Rose old new
-rose_from old mid new le rose = grind (arith, le, rose)
 
 pub walk_refused : (old mid new : Seen) (at q : Path) (todo left : List Path) (found : List File) (n limit room : ℕ) (e : WalkFault)
     → ((t : Tree) → old.tree ≡ Some t → IsTree t) → Keeps old mid → ForSome old.tree (λ t. Walks t at todo found n) → todo ≡ left ++ q ∷ [] → n ≤ limit → room ≡ limit - n

@@ -1,17 +1,11 @@
 -- The text of a path below a folder.
-use Rattle.std.proofs.Common.{◌≡◌, ◌≢◌, ℕ, List, [], ◌∷◌, ◌++◌, length, drop, refl, sym, ap, ◌∙◌, subst, append_assoc, append-nil}
+use Rattle.std.proofs.Common.{◌≡◌, ◌≢◌, ℕ, List, [], ◌∷◌, ◌++◌, length, drop, refl, sym, ap, ◌∙◌, subst}
 use Rattle.std.specs.Prelude.{IsTrue}
 use Rattle.pn_text.specs.Path.{Path, is_path, path_text, text_below, SpellsAbs, SpellsParts}
+use Rattle.pn_text.proofs.Joins.{text_below-append, below_begins}
+use Rattle.pn_text.proofs.Paths.{below_one}
 use Rattle.pn_registry.specs.Below.{IsWithin}
-use Rattle.pn_registry.proofs.Orders.{path_front, same_path}
-
-pub text_below-append : (q p : Path) → text_below (q ++ p) ≡ text_below p ++ text_below q
-text_below-append [] p = sym (append-nil (text_below p))
-text_below-append (x ∷ q) p = ap (λ t. t ++ 47 ∷ x) (text_below-append q p) ∙ append_assoc (text_below p) (text_below q) (47 ∷ x)
-
-pub below_begins : (x : List ℕ) (p : Path) → (rest : List ℕ) × (text_below (x ∷ p) ≡ 47 ∷ rest)
-below_begins x [] = (x, refl)
-below_begins x (y ∷ p) = let b = below_begins y p in (b.0 ++ 47 ∷ x, ap (λ t. t ++ 47 ∷ x) b.1)
+use Rattle.pn_registry.proofs.Orders.{path_front}
 
 -- a path other than `/` is spelled by its parts behind slashes
 spelled_below : (p : Path) → p ≢ [] → path_text p ≡ text_below p
@@ -52,4 +46,4 @@ pub leads_there : (at p q : Path) (a b rest : List ℕ) → at ≢ [] → IsWith
 leads_there at p q a b rest deep w differs sa sb cut read =
     let text : text_below q ≡ text_below w.tail = sym read.spelled ∙ sym cut ∙ behind_is at p a b deep w differs sa sb in
     let good : IsTrue (is_path w.tail) = path_front w.tail at (subst (λ z. IsTrue (is_path z)) w.is sb.good) in
-    w.is ∙ ap (λ z. z ++ at) (same_path w.tail q good read.good (sym text))
+    w.is ∙ ap (λ z. z ++ at) (below_one w.tail q good read.good (sym text))

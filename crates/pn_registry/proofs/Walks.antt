@@ -8,13 +8,15 @@ use Rattle.pn_text.specs.Path.{Path}
 use Rattle.pn_fs.specs.Tree.{Entry, folder, file, Tree, IsTree}
 use Rattle.pn_fs.specs.Calls.{IsListing}
 use Rattle.pn_read.specs.Small.{IsFileOf}
+use Rattle.pn_text.proofs.Paths.{deeper}
 use Rattle.pn_registry.specs.Below.{StandsBelow, IsDistinct, HasMany, HasFew}
 use Rattle.pn_registry.specs.Files.{File, IsFilesOf}
 use Rattle.pn_registry.specs.Listed.{file_of, placed}
 use Rattle.pn_registry.specs.Turns.{folders_in, files_in, Lists, IsFull}
 use Rattle.pn_registry.specs.declared.list.PackageFile.{PackageFile}
-use Rattle.pn_registry.proofs.Lists.{none_in, in_cons, here, there, distinct_append, distinct_front, distinct_last}
-use Rattle.pn_registry.proofs.Children.{children, length-children, tail_same, not_itself, not_below, in_children, to_children, distinct_children, in_folders, to_folders, distinct_folders, in_files, to_files}
+use Rattle.pn_text.proofs.Members.{none_in, in_cons, here, there}
+use Rattle.pn_registry.proofs.Distinct.{distinct_append, distinct_front, distinct_last}
+use Rattle.pn_registry.proofs.Children.{children, length-children, tail_same, not_below, in_children, to_children, distinct_children, in_folders, to_folders, distinct_folders, in_files, to_files}
 
 pub record Walks (t : Tree) (at : Path) (todo : List Path) (found : List File) (n : ℕ) : Type 0 where
   pub seen : List Path
@@ -99,7 +101,7 @@ module _ (t : Tree) (tree : IsTree t) (at q : Path) (left : List Path) (found : 
   apart_new : (x : List ℕ) (p : Path) → Contains seen_now (x ∷ p) → Contains (folders_in t q names) p → ⊥
   apart_new x p h f = let g = in_folders t q names p f in elim (Contains-append_cases w.seen (children q names) (x ∷ p) h) [
     | inl o ↦ elim (w.parents x p o) [ inl e ↦ new_not_at g.0 (sym g.1 ∙ e) | inr j ↦ fresh p j (new_child p f) ]
-    | inr j ↦ let c = in_children q names (x ∷ p) j in not_itself g.0 q (sym g.1 ∙ tail_same x c.0 p q c.1)
+    | inr j ↦ let c = in_children q names (x ∷ p) j in deeper g.0 q (sym g.1 ∙ tail_same x c.0 p q c.1)
   ]
 
   closed_old : (x : List ℕ) (p : Path) (e : Entry) → (p ≡ at) ⊎ Contains w.seen p → t (x ∷ p) ≡ Some e → Contains todo_now p ⊎ Contains seen_now (x ∷ p)

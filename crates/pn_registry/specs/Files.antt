@@ -4,7 +4,8 @@ use Rattle.std.specs.List.{Contains}
 use Rattle.std.specs.List.Sorted.{IsStrictlySortedBy}
 use Rattle.std.specs.Cmp.Lexicographic.{slice_cmp}
 use Rattle.std.specs.Ordering.{nat_cmp}
-use Rattle.pn_text.specs.Path.{Path, text_below}
+use Rattle.pn_text.specs.declared.limits.TheConstants.{FILE_LIMIT, PATH_LIMIT}
+use Rattle.pn_text.specs.Path.{Path, path_text, text_below}
 use Rattle.pn_text.specs.Name.{holds_modules}
 use Rattle.pn_fs.specs.Tree.{Tree, file}
 use Rattle.pn_read.specs.Small.{IsFileOf}
@@ -23,12 +24,16 @@ pub record IsFilesOf (t : Tree) (at : Path) (files : List File) : Type 0 where
   pub all : (q : Path) (bytes : List ℕ) → t (q ++ at) ≡ Some (file bytes) → Contains files (q, length bytes)
 
 abbrev pub file_limit : ℕ
-file_limit = 268435456
+file_limit = FILE_LIMIT
 
 -- no part is `node_modules`, and the file isn't too long
 pub record IsClean (f : File) : Type 0 where
   pub plain : holds_modules f.0 ≡ false
   pub short : f.1 ≤ file_limit
+
+-- the file's path in the registry isn't too long for one
+abbrev pub IsShortBelow : Path → File → Type 0
+IsShortBelow at f = length (path_text (f.0 ++ at)) ≤ PATH_LIMIT
 
 -- The second list has only files of the first one, and one for each of their paths' texts.
 pub record KeepsPaths (files list : List File) : Type 0 where

@@ -7,3 +7,5 @@ pub mod Below
 pub mod Turns
 pub mod FilesFaults
 pub mod Apart
+pub mod FilesLaws
+pub mod ManifestLaws

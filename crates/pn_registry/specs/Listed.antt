@@ -1,7 +1,7 @@
 -- What a file of a package is seen as.
 use Rattle.std.specs.Prelude.{ℕ, List, ◌++◌}
 use Rattle.pn_text.specs.Path.{Path, text_below}
-use Rattle.pn_registry.specs.Files.{File}
+use Rattle.pn_registry.specs.Files.{File, IsShortBelow}
 use Rattle.pn_registry.specs.declared.list.PackageFile.{PackageFile}
 
 abbrev pub file_of : PackageFile → File
@@ -14,3 +14,6 @@ text_of f = text_below f.path
 -- the same with the whole path
 abbrev pub placed : Path → PackageFile → File
 placed at f = (f.path ++ at, f.length)
+
+abbrev pub IsShortFile : Path → PackageFile → Type 0
+IsShortFile at f = IsShortBelow at (file_of f)

@@ -4,6 +4,8 @@ use Rattle.std.specs.Str.{bytes_eq}
 use Rattle.serde_json.specs.Data.{Data}
 use Rattle.semver.specs.Parse.{Parts}
 use Rattle.semver.specs.Identifiers.{parts_text}
+use Rattle.pn_text.specs.declared.limits.TheConstants.{TEXT_LIMIT}
+use Rattle.pn_text.specs.Ids.{id_name, id_version}
 use Rattle.pn_fs.specs.Tree.{Entry, file}
 use Rattle.pn_manifest.specs.Fields.{Spot, or_else, first_wrong, name_of, version_of}
 use Rattle.pn_manifest.specs.Pairs.{is_own}
@@ -13,7 +15,7 @@ use Rattle.pn_manifest.specs.Says.{Says}
 use Rattle.pn_manifest.specs.declared.manifest.Manifest.{Manifest}
 
 abbrev pub text_limit : ℕ
-text_limit = 16777216
+text_limit = TEXT_LIMIT
 
 -- nothing wrong, or this field
 abbrev pub unless : Bool → List ℕ → Option Spot
@@ -21,7 +23,7 @@ unless right key = if right then None else Some (key, [])
 
 -- `name` where it states another name or none, else `version` likewise
 abbrev pub other_of : Id → Data → Option Spot
-other_of id d = or_else (unless (is_own (name_of d) id.name) (codes "name")) (unless (is_own (version_of d) id.version) (codes "version"))
+other_of id d = or_else (unless (is_own (name_of d) (id_name id)) (codes "name")) (unless (is_own (version_of d) (id_version id)) (codes "version"))
 
 -- the first wrong field and key of a package's manifest
 abbrev pub first_wrong_of : Id → Data → Option Spot
@@ -34,7 +36,7 @@ has_text (Some p) text = bytes_eq (parts_text p) text
 
 -- the same by what was read
 abbrev pub stated_other : Id → Option (List ℕ) → Option Parts → Option Spot
-stated_other id name version = or_else (unless (is_own name id.name) (codes "name")) (unless (has_text version id.version) (codes "version"))
+stated_other id name version = or_else (unless (is_own name (id_name id)) (codes "name")) (unless (has_text version (id_version id)) (codes "version"))
 
 -- The object is right for the package, and the manifest has what it says.
 pub record IsRead (id : Id) (d : Data) (m : Manifest) : Type 0 where

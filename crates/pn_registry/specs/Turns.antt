@@ -1,9 +1,9 @@
 -- What is found where a folder's entries are listed.
-use Rattle.std.specs.Prelude.{◌≡◌, ◌<◌, ℕ, List, [], ◌∷◌, ◌++◌, length, Option, Some, None, IfSome}
+use Rattle.std.specs.Prelude.{◌≡◌, ◌⊎◌, ◌<◌, ◌+◌, ℕ, List, [], ◌∷◌, ◌++◌, length, Option, Some, None, IfSome}
 use Rattle.pn_text.specs.Path.{Path}
 use Rattle.pn_text.specs.Causes.{Rose}
 use Rattle.pn_fs.specs.Tree.{Entry, folder, file, link, Tree}
-use Rattle.pn_fs.specs.Seen.{Seen}
+use Rattle.pn_fs.specs.Seen.{Seen, GaveAtMost}
 use Rattle.pn_fs.specs.Calls.{IsListing}
 use Rattle.pn_registry.specs.Files.{File}
 use Rattle.pn_registry.specs.Below.{HasMany}
@@ -72,3 +72,13 @@ abbrev pub WalkRefused : Seen → Seen → Path → ℕ → WalkFault → Type 0
 WalkRefused old new at limit Entries = IfSome old.tree (λ t. HasMany t at limit)
 WalkRefused old new at limit Fault = Rose old.faults new.faults
 WalkRefused old new at limit Memory = Unit {0}
+
+-- the names of a folder, or none
+abbrev pub MayList : Tree → List (List ℕ) → Type 0
+MayList t names = (names ≡ []) ⊎ ((p : Path) × IsListing t p names)
+
+-- Calls gave at most so many names, those of one folder aside, and no bytes of files.
+pub record GaveListings (t : Tree) (most : ℕ) (old new : Seen) : Type 0 where
+  pub last : List (List ℕ)
+  pub listed : MayList t last
+  pub gave : GaveAtMost old 0 (most + length last) new

@@ -4,85 +4,95 @@ ghost use Rattle.std.specs.Option.{ForSome};
 ghost use Rattle.std.specs.List.{All};
 ghost use Rattle.pn_fs.specs.Tree.{folder};
 ghost use Rattle.pn_fs.specs.Seen.{Keeps};
+ghost use Rattle.pn_registry.specs.Turns.{GaveListings};
+ghost use Rattle.pn_text.specs.declared.limits.TheConstants.{ENTRY_LIMIT};
 ghost use Rattle.pn_registry.specs.Places.{package_folder};
-ghost use Rattle.pn_registry.specs.Files.{IsFilesOf, IsClean};
+ghost use Rattle.pn_registry.specs.Files.{IsFilesOf, IsClean, IsShortBelow};
 ghost use Rattle.pn_registry.specs.Apart.{AreApart};
 ghost use Rattle.pn_registry.specs.Below.{HasFew};
 ghost use Rattle.pn_registry.specs.Listed.{file_of};
-ghost use Rattle.pn_registry.specs.FilesFaults.{FilesRefused, NotWalked, IsModular, IsLong, IsPassed, IsNamed, is_modular, is_large, entry_limit};
+ghost use Rattle.pn_registry.specs.FilesFaults.{FilesRefused, NotWalked, IsModular, IsLong, IsPassed, IsNamed, NamesShort, is_modular, is_large, entry_limit};
 
 use crate::apart::in_order_apart;
 use crate::folder::package_folder;
 use crate::list::{Files, PackageFile};
-use crate::parts::has_modules;
 use crate::walk::{WalkFault, walk};
 use pn_fs::ReadFs;
-use pn_manifest::ExactId;
-use pn_text::{AbsPath, Memory, RelPath};
+use pn_text::{AbsPath, ENTRY_LIMIT, FILE_LIMIT, Memory, PkgId, RelPath};
 use std::alloc::Global;
-
-const FILE_LIMIT: u64 = 268435456;
-
-const ENTRY_LIMIT: u64 = 4194304;
+use thiserror::Error;
 
 /// Why the files of a package aren't told: the first path in byte order with a part `node_modules`; else
 /// the first file of more than 268,435,456 bytes, with its length; more than 4,194,304 entries; a failed
 /// call; no memory.
-#[derive(Drop)]
+#[derive(Debug, Drop, Error)]
 pub enum FilesFault {
+    #[error("{0} has a part node_modules")]
     Modules(RelPath),
+    #[error("{0} has {1} bytes")]
     TooLarge(RelPath, u64),
+    #[error("there are too many entries")]
     Entries,
+    #[error("a call failed")]
     Fault,
+    #[error("out of memory")]
     Memory,
 }
 
 /// All the files at any depth below a package's folder, none below another one. Links are passed over.
-pub fn files<R: ReadFs>(alloc: Global, reg: &mut R, id: &ExactId) -> Result<Files, FilesFault>
-    requires { ForSome (R.seen reg.old).tree (λ t. t (package_folder id.now) ≡ Some folder) }
-    ensures files { IfSome (R.seen reg.old).tree (λ t. IfOk result (IsFilesOf t (package_folder id.now))) }
-    ensures few { IfSome (R.seen reg.old).tree (λ t. OnOk result (HasFew t (package_folder id.now) entry_limit)) }
+pub fn files<R: ReadFs>(alloc: Global, registry: &mut R, id: &PkgId) -> Result<Files, FilesFault>
+    requires { ForSome (R.seen registry.old).tree (λ t. t (package_folder id.now) ≡ Some folder) }
+    ensures files { IfSome (R.seen registry.old).tree (λ t. IfOk result (IsFilesOf t (package_folder id.now))) }
+    ensures few { IfSome (R.seen registry.old).tree (λ t. OnOk result (HasFew t (package_folder id.now) entry_limit)) }
     ensures clean { IfOk result (All IsClean) }
     ensures apart { IfOk result AreApart }
-    ensures kept { Keeps (R.seen reg.old) (R.seen reg.new) }
-    ensures fault { IfErr result (FilesRefused (package_folder id.now) (R.seen reg.old) (R.seen reg.new)) }
+    ensures short { IfOk result (All (IsShortBelow (package_folder id.now))) }
+    ensures named { IfErr result (NamesShort (package_folder id.now)) }
+    ensures gave { IfSome (R.seen registry.old).tree (λ t. GaveListings t ENTRY_LIMIT (R.seen registry.old) (R.seen registry.new)) }
+    ensures kept { Keeps (R.seen registry.old) (R.seen registry.new) }
+    ensures fault { IfErr result (FilesRefused (package_folder id.now) (R.seen registry.old) (R.seen registry.new)) }
 {
     match package_folder(alloc, id) {
-        Ok(Some(at)) => files_at(alloc, reg, &at),
+        Ok(Some(at)) => files_at(alloc, registry, &at),
         Ok(None) => Ok(Files::new(alloc)),
         Err(_) => Err(FilesFault::Memory),
     }
 }
 
-fn files_at<R: ReadFs>(alloc: Global, reg: &mut R, at: &AbsPath) -> Result<Files, FilesFault>
-    requires folder { ForSome (R.seen reg.old).tree (λ t. t at.now ≡ Some folder) }
+fn files_at<R: ReadFs>(alloc: Global, registry: &mut R, at: &AbsPath) -> Result<Files, FilesFault>
+    requires folder { ForSome (R.seen registry.old).tree (λ t. t at.now ≡ Some folder) }
     requires deep { at.now ≢ [] }
-    ensures files { IfSome (R.seen reg.old).tree (λ t. IfOk result (IsFilesOf t at.now)) }
-    ensures few { IfSome (R.seen reg.old).tree (λ t. OnOk result (HasFew t at.now entry_limit)) }
+    ensures files { IfSome (R.seen registry.old).tree (λ t. IfOk result (IsFilesOf t at.now)) }
+    ensures few { IfSome (R.seen registry.old).tree (λ t. OnOk result (HasFew t at.now entry_limit)) }
     ensures clean { IfOk result (All IsClean) }
     ensures apart { IfOk result AreApart }
-    ensures kept { Keeps (R.seen reg.old) (R.seen reg.new) }
-    ensures fault { IfErr result (FilesRefused at.now (R.seen reg.old) (R.seen reg.new)) }
+    ensures short { IfOk result (All (IsShortBelow at.now)) }
+    ensures named { IfErr result (NamesShort at.now) }
+    ensures gave { IfSome (R.seen registry.old).tree (λ t. GaveListings t ENTRY_LIMIT (R.seen registry.old) (R.seen registry.new)) }
+    ensures kept { Keeps (R.seen registry.old) (R.seen registry.new) }
+    ensures fault { IfErr result (FilesRefused at.now (R.seen registry.old) (R.seen registry.new)) }
 {
-    match all_files(alloc, reg, at) {
+    match all_files(alloc, registry, at) {
         Ok(files) => match refuse(alloc, files.as_slice()) {
             Ok(()) => Ok(files),
             Err(fault) => Err(fault),
         },
-        Err(fault) => Err(fault),
+        Err(stop) => Err(stop),
     }
 }
 
-fn all_files<R: ReadFs>(alloc: Global, reg: &mut R, at: &AbsPath) -> Result<Files, FilesFault>
-    requires folder { ForSome (R.seen reg.old).tree (λ t. t at.now ≡ Some folder) }
+fn all_files<R: ReadFs>(alloc: Global, registry: &mut R, at: &AbsPath) -> Result<Files, FilesFault>
+    requires folder { ForSome (R.seen registry.old).tree (λ t. t at.now ≡ Some folder) }
     requires deep { at.now ≢ [] }
-    ensures files { IfSome (R.seen reg.old).tree (λ t. IfOk result (IsFilesOf t at.now)) }
-    ensures few { IfSome (R.seen reg.old).tree (λ t. OnOk result (HasFew t at.now entry_limit)) }
+    ensures files { IfSome (R.seen registry.old).tree (λ t. IfOk result (IsFilesOf t at.now)) }
+    ensures few { IfSome (R.seen registry.old).tree (λ t. OnOk result (HasFew t at.now entry_limit)) }
     ensures apart { IfOk result AreApart }
-    ensures kept { Keeps (R.seen reg.old) (R.seen reg.new) }
-    ensures fault { IfErr result (NotWalked at.now (R.seen reg.old) (R.seen reg.new)) }
+    ensures short { IfOk result (All (IsShortBelow at.now)) }
+    ensures gave { IfSome (R.seen registry.old).tree (λ t. GaveListings t ENTRY_LIMIT (R.seen registry.old) (R.seen registry.new)) }
+    ensures kept { Keeps (R.seen registry.old) (R.seen registry.new) }
+    ensures fault { IfErr result (NotWalked at.now (R.seen registry.old) (R.seen registry.new)) }
 {
-    match walk(alloc, reg, at, ENTRY_LIMIT) {
+    match walk(alloc, registry, at, ENTRY_LIMIT) {
         Ok(found) => match in_order_apart(alloc, found) {
             Ok(files) => Ok(files),
             Err(_) => Err(FilesFault::Memory),
@@ -107,7 +117,7 @@ fn refuse_modules(alloc: Global, files: &[PackageFile]) -> Result<(), FilesFault
     ensures first { IfErr result (IsModular (find is_modular (map file_of files.now))) }
 {
     for file in files {
-        if has_modules(&file.path) {
+        if file.path.has_modules() {
             let path = file.path.copy(alloc)?;
             return Err(FilesFault::Modules(path));
         }

@@ -2,8 +2,8 @@
 
 use crate::{Files, FilesFault, PackageFault, PackageFile, files, manifest, stands};
 use pn_fs::{Body, SureFs, try_make};
-use pn_manifest::ExactId;
-use pn_text::{AbsPath, PkgName, Text};
+use pn_manifest::ManifestWhy;
+use pn_text::{AbsPath, PkgId, PkgName, Text};
 use std::alloc::Global;
 use std::test::Fail;
 
@@ -49,10 +49,9 @@ fn registry(alloc: Global) -> Result<SureFs, Fail> {
     Ok(fs)
 }
 
-fn id(alloc: Global, version: &str) -> Result<Option<ExactId>, Fail> {
+fn id(alloc: Global, version: &str) -> Result<Option<PkgId>, Fail> {
     let name = PkgName::read(alloc, "a")?;
-    let version = Text::of(alloc, version)?;
-    Ok(ExactId::of(alloc, &name, &version)?)
+    Ok(PkgId::of(alloc, &name, version)?)
 }
 
 // The files, each with a `+` where it isn't empty.
@@ -108,8 +107,8 @@ fn wrong(alloc: Global, version: &str) -> Result<String, Fail> {
     };
     let text = match manifest(alloc, &mut fs, &id) {
         Ok(_) => "nothing",
-        Err(PackageFault::Missing) => "missing",
-        Err(PackageFault::BadField(field, _)) => return Ok(String::from_str(
+        Err(PackageFault::Wrong(ManifestWhy::Missing)) => "missing",
+        Err(PackageFault::Wrong(ManifestWhy::BadField(field, _))) => return Ok(String::from_str(
             alloc,
             field.as_str(),
         )?),

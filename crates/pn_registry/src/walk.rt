@@ -1,43 +1,51 @@
 // Walks through a folder and all folders below it.
-ghost use Rattle.std.specs.Prelude.{◌≡◌, ◌≢◌, ◌+◌, ◌≤◌, ◌++◌, ◌∷◌, [], OnOk, IfOk, IfErr, IfSome, Some, IsTrue, length, map, vec_len, drop, ◌^◌, ◌<◌, ℕ, List};
+ghost use Rattle.std.specs.Prelude.{◌≡◌, ◌≢◌, ◌+◌, ◌≤◌, ◌++◌, ◌∷◌, [], OnOk, OnErr, IfOk, IfErr, IfSome, Some, IsTrue, length, map, vec_len, drop, ◌^◌, ◌<◌, ℕ, List};
 ghost use Rattle.std.specs.Option.{ForSome};
 ghost use Rattle.std.specs.List.{All};
 ghost use Rattle.pn_text.specs.Path.{is_part, path_text};
+ghost use Rattle.pn_text.specs.declared.limits.TheConstants.{PATH_LIMIT};
 ghost use Rattle.pn_fs.specs.Tree.{folder};
-ghost use Rattle.pn_fs.specs.Seen.{Keeps};
+ghost use Rattle.pn_fs.specs.Seen.{Keeps, GaveNothing, GaveNames, GaveAtMost};
 ghost use Rattle.pn_fs.specs.Calls.{IsListing, IsEntryName};
-ghost use Rattle.pn_registry.specs.Files.{IsFilesOf};
+ghost use Rattle.pn_registry.specs.Files.{IsFilesOf, IsShortBelow};
 ghost use Rattle.pn_registry.specs.Below.{IsWithin, AllWithin, HasFew};
-ghost use Rattle.pn_registry.specs.Listed.{file_of, placed};
-ghost use Rattle.pn_registry.specs.Turns.{Takes, TakesAll, Lists, ListRefused, CallRefused, WalkRefused};
+ghost use Rattle.pn_registry.specs.Listed.{file_of, placed, IsShortFile};
+ghost use Rattle.pn_registry.specs.Turns.{Takes, TakesAll, Lists, ListRefused, CallRefused, WalkRefused, GaveListings};
 
 use crate::list::PackageFile;
 use pn_fs::{Kind, ReadFs};
 use pn_text::{AbsPath, DevFault, Memory, RelPath, Text};
 use std::alloc::{AllocFailed, Global};
+use thiserror::Error;
 
 /// Why a walk stopped: too many entries, a failed call, no memory.
-#[derive(Clone, Copy, Debug, PartialEq, Eq)]
+#[derive(Clone, Copy, Debug, PartialEq, Eq, Error)]
 pub enum WalkFault {
+    #[error("there are too many entries")]
     Entries,
+    #[error("a call failed")]
     Fault,
+    #[error("out of memory")]
     Memory,
 }
 
 /// All the files below a folder other than `/`, in no order, where at most `limit` entries stand below it.
 pub fn walk<R: ReadFs>(
     alloc: Global,
-    reg: &mut R,
+    registry: &mut R,
     at: &AbsPath,
     limit: u64,
 ) -> Result<Vec<PackageFile>, WalkFault>
-    requires folder { ForSome (R.seen reg.old).tree (λ t. t at.now ≡ Some folder) }
+    requires folder { ForSome (R.seen registry.old).tree (λ t. t at.now ≡ Some folder) }
     requires deep { at.now ≢ [] }
     requires small { limit < 2 ^ 40 }
-    ensures files { IfSome (R.seen reg.old).tree (λ t. IfOk result (λ v. IsFilesOf t at.now (map file_of v.items))) }
-    ensures few { IfSome (R.seen reg.old).tree (λ t. OnOk result (HasFew t at.now limit)) }
-    ensures kept { Keeps (R.seen reg.old) (R.seen reg.new) }
-    ensures fault { IfErr result (WalkRefused (R.seen reg.old) (R.seen reg.new) at.now limit) }
+    ensures files { IfSome (R.seen registry.old).tree (λ t. IfOk result (λ v. IsFilesOf t at.now (map file_of v.items))) }
+    ensures few { IfSome (R.seen registry.old).tree (λ t. OnOk result (HasFew t at.now limit)) }
+    ensures short { IfOk result (λ v. All (IsShortFile at.now) v.items) }
+    ensures gave_few { IfSome (R.seen registry.old).tree (λ t. OnOk result (GaveAtMost (R.seen registry.old) 0 limit (R.seen registry.new))) }
+    ensures gave { IfSome (R.seen registry.old).tree (λ t. GaveListings t limit (R.seen registry.old) (R.seen registry.new)) }
+    ensures kept { Keeps (R.seen registry.old) (R.seen registry.new) }
+    ensures fault { IfErr result (WalkRefused (R.seen registry.old) (R.seen registry.new) at.now limit) }
 {
     let mut todo = Vec::new(alloc);
     let first = at.copy(alloc)?;
@@ -46,7 +54,7 @@ pub fn walk<R: ReadFs>(
     let mut listed = 0;
     'folders: while let Some(folder) = todo.pop() {
         let room = limit - listed;
-        match list_folder(alloc, reg, at, &folder, room, &mut todo, &mut found) {
+        match list_folder(alloc, registry, at, &folder, room, &mut todo, &mut found) {
             Ok(count) => listed += count,
             Err(fault) => return Err(fault),
         }
@@ -57,41 +65,47 @@ pub fn walk<R: ReadFs>(
 // Lists a folder, and takes each of its entries in.
 fn list_folder<R: ReadFs>(
     alloc: Global,
-    reg: &mut R,
+    registry: &mut R,
     at: &AbsPath,
     parent: &AbsPath,
     room: u64,
     todo: &mut Vec<AbsPath>,
     found: &mut Vec<PackageFile>,
 ) -> Result<u64, WalkFault>
-    requires folder { ForSome (R.seen reg.old).tree (λ t. t parent.now ≡ Some folder) }
+    requires folder { ForSome (R.seen registry.old).tree (λ t. t parent.now ≡ Some folder) }
     requires deep { at.now ≢ [] }
     requires within { IsWithin at.now parent.now }
     requires all_within { AllWithin at.now todo.old.items }
-    ensures lists { IfSome (R.seen reg.old).tree (λ t. IfOk result (λ n. Lists t parent.now n todo.old.items todo.new.items (map (placed at.now) found.old.items) (map (placed at.now) found.new.items))) }
+    requires short { All (IsShortFile at.now) found.old.items }
+    ensures lists { IfSome (R.seen registry.old).tree (λ t. IfOk result (λ n. Lists t parent.now n todo.old.items todo.new.items (map (placed at.now) found.old.items) (map (placed at.now) found.new.items))) }
     ensures room { IfOk result (λ n. n ≤ room) }
     ensures grows { IfOk result (λ n. vec_len todo.new ≤ vec_len todo.old + n) }
     ensures all_within { OnOk result (AllWithin at.now todo.new.items) }
-    ensures kept { Keeps (R.seen reg.old) (R.seen reg.new) }
-    ensures fault { IfErr result (ListRefused (R.seen reg.old) (R.seen reg.new) parent.now room) }
+    ensures short { OnOk result (All (IsShortFile at.now) found.new.items) }
+    ensures gave_names { IfSome (R.seen registry.old).tree (λ t. IfOk result (λ n. GaveAtMost (R.seen registry.old) 0 n (R.seen registry.new))) }
+    ensures gave { IfSome (R.seen registry.old).tree (λ t. GaveListings t 0 (R.seen registry.old) (R.seen registry.new)) }
+    ensures kept { Keeps (R.seen registry.old) (R.seen registry.new) }
+    ensures fault { IfErr result (ListRefused (R.seen registry.old) (R.seen registry.new) parent.now room) }
 {
-    let names = names_of(reg, parent)?;
+    let names = names_of(registry, parent)?;
     let count = names.len() as u64;
     if count > room {
         return Err(WalkFault::Entries);
     }
-    take_all(alloc, reg, at, parent, names.as_slice(), todo, found)?;
+    take_all(alloc, registry, at, parent, names.as_slice(), todo, found)?;
     Ok(count)
 }
 
-fn names_of<R: ReadFs>(reg: &mut R, parent: &AbsPath) -> Result<Vec<Text>, WalkFault>
-    requires folder { ForSome (R.seen reg.old).tree (λ t. t parent.now ≡ Some folder) }
-    ensures names { IfSome (R.seen reg.old).tree (λ t. IfOk result (λ names. IsListing t parent.now names.items)) }
+fn names_of<R: ReadFs>(registry: &mut R, parent: &AbsPath) -> Result<Vec<Text>, WalkFault>
+    requires folder { ForSome (R.seen registry.old).tree (λ t. t parent.now ≡ Some folder) }
+    ensures names { IfSome (R.seen registry.old).tree (λ t. IfOk result (λ names. IsListing t parent.now names.items)) }
     ensures good { IfOk result (λ names. All (IsEntryName parent.now) names.items) }
-    ensures kept { Keeps (R.seen reg.old) (R.seen reg.new) }
-    ensures fault { IfErr result (CallRefused (R.seen reg.old) (R.seen reg.new)) }
+    ensures gave_names { IfSome (R.seen registry.old).tree (λ t. IfOk result (λ names. GaveNames (R.seen registry.old) (length names.items) (R.seen registry.new))) }
+    ensures gave_none { IfSome (R.seen registry.old).tree (λ t. OnErr result (GaveNothing (R.seen registry.old) (R.seen registry.new))) }
+    ensures kept { Keeps (R.seen registry.old) (R.seen registry.new) }
+    ensures fault { IfErr result (CallRefused (R.seen registry.old) (R.seen registry.new)) }
 {
-    match reg.list(parent) {
+    match registry.list(parent) {
         Ok(names) => Ok(names),
         Err(DevFault::Failed) => Err(WalkFault::Fault),
         Err(DevFault::Memory) => Err(WalkFault::Memory),
@@ -100,7 +114,7 @@ fn names_of<R: ReadFs>(reg: &mut R, parent: &AbsPath) -> Result<Vec<Text>, WalkF
 
 fn take_all<R: ReadFs>(
     alloc: Global,
-    reg: &mut R,
+    registry: &mut R,
     at: &AbsPath,
     parent: &AbsPath,
     names: &[Text],
@@ -111,14 +125,17 @@ fn take_all<R: ReadFs>(
     requires deep { at.now ≢ [] }
     requires within { IsWithin at.now parent.now }
     requires all_within { AllWithin at.now todo.old.items }
-    ensures takes { IfSome (R.seen reg.old).tree (λ t. OnOk result (TakesAll t parent.now names.now todo.old.items todo.new.items (map (placed at.now) found.old.items) (map (placed at.now) found.new.items))) }
+    requires short { All (IsShortFile at.now) found.old.items }
+    ensures takes { IfSome (R.seen registry.old).tree (λ t. OnOk result (TakesAll t parent.now names.now todo.old.items todo.new.items (map (placed at.now) found.old.items) (map (placed at.now) found.new.items))) }
     ensures grows { OnOk result (vec_len todo.new ≤ vec_len todo.old + length names.now) }
     ensures all_within { OnOk result (AllWithin at.now todo.new.items) }
-    ensures kept { Keeps (R.seen reg.old) (R.seen reg.new) }
-    ensures fault { IfErr result (CallRefused (R.seen reg.old) (R.seen reg.new)) }
+    ensures short { OnOk result (All (IsShortFile at.now) found.new.items) }
+    ensures gave { IfSome (R.seen registry.old).tree (λ t. GaveAtMost (R.seen registry.old) 0 0 (R.seen registry.new)) }
+    ensures kept { Keeps (R.seen registry.old) (R.seen registry.new) }
+    ensures fault { IfErr result (CallRefused (R.seen registry.old) (R.seen registry.new)) }
 {
     for name in names {
-        take(alloc, reg, at, parent, name.as_str(), todo, found)?;
+        take(alloc, registry, at, parent, name.as_str(), todo, found)?;
     }
     Ok(())
 }
@@ -126,7 +143,7 @@ fn take_all<R: ReadFs>(
 // A folder is to be listed, a file is found, and a link is passed over.
 fn take<R: ReadFs>(
     alloc: Global,
-    reg: &mut R,
+    registry: &mut R,
     at: &AbsPath,
     parent: &AbsPath,
     name: &str,
@@ -137,14 +154,17 @@ fn take<R: ReadFs>(
     requires deep { at.now ≢ [] }
     requires within { IsWithin at.now parent.now }
     requires all_within { AllWithin at.now todo.old.items }
-    ensures takes { IfSome (R.seen reg.old).tree (λ t. OnOk result (Takes t parent.now name.now todo.old.items todo.new.items (map (placed at.now) found.old.items) (map (placed at.now) found.new.items))) }
+    requires short { All (IsShortFile at.now) found.old.items }
+    ensures takes { IfSome (R.seen registry.old).tree (λ t. OnOk result (Takes t parent.now name.now todo.old.items todo.new.items (map (placed at.now) found.old.items) (map (placed at.now) found.new.items))) }
     ensures grows { OnOk result (vec_len todo.new ≤ vec_len todo.old + 1) }
     ensures all_within { OnOk result (AllWithin at.now todo.new.items) }
-    ensures kept { Keeps (R.seen reg.old) (R.seen reg.new) }
-    ensures fault { IfErr result (CallRefused (R.seen reg.old) (R.seen reg.new)) }
+    ensures short { OnOk result (All (IsShortFile at.now) found.new.items) }
+    ensures gave { IfSome (R.seen registry.old).tree (λ t. GaveNothing (R.seen registry.old) (R.seen registry.new)) }
+    ensures kept { Keeps (R.seen registry.old) (R.seen registry.new) }
+    ensures fault { IfErr result (CallRefused (R.seen registry.old) (R.seen registry.new)) }
 {
     let path = child(alloc, parent, name)?;
-    match reg.kind(&path) {
+    match registry.kind(&path) {
         Ok(Kind::Folder) => push_folder(todo, path),
         Ok(Kind::File(length)) => push_file(alloc, at, &path, length, found),
         Ok(_) => Ok(()),
@@ -183,7 +203,9 @@ fn push_file(
     requires deep { at.now ≢ [] }
     requires within { IsWithin at.now path.now }
     requires below { path.now ≢ at.now }
+    requires short { All (IsShortFile at.now) found.old.items }
     ensures items { OnOk result (map (placed at.now) found.new.items ≡ map (placed at.now) found.old.items ++ (path.now, length) ∷ []) }
+    ensures short { OnOk result (All (IsShortFile at.now) found.new.items) }
     ensures memory { IfErr result (λ e. e ≡ WalkFault.Memory) }
 {
     let path = below(alloc, at, path)?;
@@ -197,6 +219,7 @@ fn below(alloc: Global, at: &AbsPath, path: &AbsPath) -> Result<RelPath, WalkFau
     requires within { IsWithin at.now path.now }
     requires below { path.now ≢ at.now }
     ensures path { IfOk result (λ p. path.now ≡ p ++ at.now) }
+    ensures short { IfOk result (λ p. length (path_text (p ++ at.now)) ≤ PATH_LIMIT) }
     ensures memory { IfErr result (λ e. e ≡ WalkFault.Memory) }
 {
     let rest = behind(path.as_str(), at.as_str().len());

@@ -6,13 +6,12 @@ use Rattle.std.specs.Result.{IsErrAnd}
 use Rattle.std.specs.List.{list_all}
 use Rattle.std.specs.Str.{NoCharPasses}
 use Rattle.std.specs.Str.Pattern.{RFindsChar, SplitsAroundMatch}
-use Rattle.std.proofs.lemmas.Bool.{cases_Bool, eqb-true}
+use Rattle.std.proofs.lemmas.Bool.{and_parts, and_right, cases_Bool, eqb-true}
 use Rattle.std.proofs.lemmas.Bool.Decides.{nat_tests}
 use Rattle.std.proofs.lemmas.Str.Pattern.{NoCharPasses-char, drop_at_char}
 use Rattle.std.proofs.lemmas.List.{take-append-drop}
 use Rattle.pn_text.specs.Name.{IsName, is_first, is_name, is_name_byte, is_name_part}
 use Rattle.pn_text.specs.Name as name
-use Rattle.pn_ranges.proofs.Words.{and_left, and_right}
 use Rattle.pn_text.proofs.NameTexts.{name_law}
 use Rattle.pn_spec.specs.Ranges.{IsNoRange, has_foreign, is_foreign}
 use Rattle.pn_spec.proofs.Foreign.{foreign}
@@ -20,7 +19,7 @@ use Rattle.pn_spec.specs.declared.fault.SpecFault.{SpecFault}
 use Rattle.pn_spec.specs.declared.fault.SpecFault.TheVariants.{Unsupported, Memory}
 use Rattle.pn_spec.specs.Refusals.{FitsNoWant, FitsNoWsWant, FitsNoWorkspace, FitsNoAlias, FitsNoForm, Refuses}
 use Rattle.pn_spec.specs.Tags.{is_letter, is_tag, is_catalog}
-use Rattle.pn_spec.specs.Texts.{HasNoPart, IsParted, has_at}
+use Rattle.pn_spec.specs.SpecTexts.{HasNoPart, IsParted, has_at}
 
 none-at : (t : List ℕ) → ((i : ℕ) → i < length t → get_or t i 0 ≢ 64) → has_at t ≡ false
 none-at [] h = refl
@@ -70,13 +69,9 @@ plain-not : (n rest : List ℕ) → list_all is_name_byte (n ++ 64 ∷ rest) ≡
 plain-not [] rest = refl
 plain-not (b ∷ n) rest = elim (cases_Bool (is_name_byte b)) [ inl hit ↦ rw hit (plain-not n rest) | inr miss ↦ rw miss refl ]
 
-and-false : (x : Bool) → (x && false) ≡ false
-and-false true = refl
-and-false false = refl
-
 tag-not : (n rest : List ℕ) → is_tag (n ++ 64 ∷ rest) ≡ false
 tag-not [] rest = refl
-tag-not (b ∷ n) rest = ap (λ x. is_letter b && x) (plain-not n rest) ∙ and-false (is_letter b)
+tag-not (b ∷ n) rest = ap (λ x. is_letter b && x) (plain-not n rest) ∙ and_right (is_letter b) false refl
 
 -- no range has an `@`
 no-range-at : (t n rest : List ℕ) → t ≡ n ++ 64 ∷ rest → IsNoRange t
@@ -152,7 +147,7 @@ plain-no-at : (t : List ℕ) → list_all is_name_byte t ≡ true → has_at t �
 plain-no-at [] h = refl
 plain-no-at (b ∷ t) h = elim (cases_Bool (b == 64)) [
   | inl hit ↦ absurd (let same : b ≡ 64 = eqb-true b 64 hit in let off : (is_name_byte 64 && list_all is_name_byte t) ≡ true = subst (λ c. (is_name_byte c && list_all is_name_byte t) ≡ true) same h in cc off)
-  | inr miss ↦ rw miss (plain-no-at t (and_right (is_name_byte b) (list_all is_name_byte t) h))
+  | inr miss ↦ rw miss (plain-no-at t (and_parts (is_name_byte b) (list_all is_name_byte t) h).1)
 ]
 
 letter-byte : (b : ℕ) → is_letter b ≡ true → is_name_byte b ≡ true
@@ -162,14 +157,13 @@ letter-byte b h = letter-in (nat_le 97 b && nat_le b 122) (nat_le 65 b && nat_le
 
 pub tag-no-at : (t : List ℕ) → is_tag t ≡ true → has_at t ≡ false
 tag-no-at [] h = refl
-tag-no-at (b ∷ t) h = plain-no-at (b ∷ t) (rw (letter-byte b (and_left (is_letter b) (list_all is_name_byte t) h), and_right (is_letter b) (list_all is_name_byte t) h) refl)
-
-first-byte : (b : ℕ) → is_first b ≡ true → is_name_byte b ≡ true
-first-byte b h = rw h refl
+tag-no-at (b ∷ t) h = plain-no-at (b ∷ t) (rw (letter-byte b (and_parts (is_letter b) (list_all is_name_byte t) h).0, (and_parts (is_letter b) (list_all is_name_byte t) h).1) refl)
 
 part-no-at : (t : List ℕ) → is_name_part t ≡ true → has_at t ≡ false
 part-no-at [] h = refl
-part-no-at (b ∷ t) h = plain-no-at (b ∷ t) (rw (first-byte b (and_left (is_first b) _ h), and_right (is_first b) (list_all is_name_byte t) h) refl)
+part-no-at (b ∷ t) h =
+    let first : is_name_byte b ≡ true = rw (and_parts (is_first b) (list_all is_name_byte t) h).0 refl in
+    plain-no-at (b ∷ t) (rw (first, (and_parts (is_first b) (list_all is_name_byte t) h).1) refl)
 
 append-no-at : (s t : List ℕ) → has_at s ≡ false → has_at t ≡ false → has_at (s ++ t) ≡ false
 append-no-at [] t h k = k
@@ -187,7 +181,7 @@ name-part t [] rest n e some = some refl
 name-part _ (c ∷ front) rest (name.plain [] h) e some = cc e
 name-part _ (c ∷ front) rest (name.plain (b ∷ t) h) e some =
     let same : t ≡ front ++ 64 ∷ rest = cc e in
-    at-once t front rest (plain-no-at t (and_right (is_first b) (list_all is_name_byte t) h)) same
+    at-once t front rest (plain-no-at t (and_parts (is_first b) (list_all is_name_byte t) h).1) same
 name-part _ (c ∷ front) rest (name.scoped s x h k) e some =
     let same : s ++ 47 ∷ x ≡ front ++ 64 ∷ rest = cc e in
     at-once (s ++ 47 ∷ x) front rest (append-no-at s (47 ∷ x) (part-no-at s h) (part-no-at x k)) same

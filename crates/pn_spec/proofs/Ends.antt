@@ -5,7 +5,7 @@ use Rattle.std.specs.Str.Pattern.{FindsCharPrefix, FindsCharSuffix}
 use Rattle.std.proofs.lemmas.Bool.{cases_Bool, eqb-true}
 use Rattle.std.proofs.lemmas.Str.Pattern.{strip_prefix_char, strip_suffix_char}
 use Rattle.pn_ranges.specs.Bytes.{behind, is_space}
-use Rattle.pn_spec.specs.Texts.{before_trimmed, trim_end}
+use Rattle.pn_spec.specs.SpecTexts.{before_trimmed, trim_end}
 
 space-is : (b : ℕ) → is_space b ≡ true → (b ≡ 32) ⊎ (b ≡ 9)
 space-is b s = elim (cases_Bool (b == 32)) [

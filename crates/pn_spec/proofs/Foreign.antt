@@ -2,7 +2,7 @@
 use Rattle.std.proofs.Common.{◌≡◌, ℕ, Bool, true, false, List, [], ◌∷◌, ◌++◌, Option, refl, sym, ap, ◌∙◌, inl, inr}
 use Rattle.std.specs.Prelude.{◌==◌}
 use Rattle.std.specs.List.{list_all}
-use Rattle.std.proofs.lemmas.Bool.{cases_Bool, eqb-true}
+use Rattle.std.proofs.lemmas.Bool.{and_parts, cases_Bool, eqb-true}
 use Rattle.semver.specs.Grammar.{is_build_identifier, is_identifier_byte, is_pre_identifier}
 use Rattle.pn_ranges.specs.declared.comparator.Sign.{Sign}
 use Rattle.pn_ranges.specs.Bytes.{is_space, is_lead, is_wild, is_digit}
@@ -10,7 +10,6 @@ use Rattle.pn_ranges.specs.Grammar.{AreComparators, AreGaps, AreIdentifiers, Are
 use Rattle.pn_ranges.specs.Grammar as g
 use Rattle.pn_ranges.specs.Limits.{Limit}
 use Rattle.pn_ranges.specs.Table.{Named}
-use Rattle.pn_ranges.proofs.Words.{and_left, and_right}
 use Rattle.pn_spec.specs.Ranges.{ForeignLaw, has_foreign, is_foreign}
 
 Clean : List ℕ → Type 0
@@ -30,7 +29,7 @@ clean-all : (test : ℕ → Bool) → test 64 ≡ false → test 58 ≡ false �
 unfolding Clean
 clean-all test at colon [] h = refl
 clean-all test at colon (b ∷ t) h =
-    rw (clean-byte test at colon b (and_left (test b) (list_all test t) h)) (clean-all test at colon t (and_right (test b) (list_all test t) h))
+    rw (clean-byte test at colon b (and_parts (test b) (list_all test t) h).0) (clean-all test at colon t (and_parts (test b) (list_all test t) h).1)
 
 clean-more : (b : ℕ) (t : List ℕ) → is_foreign b ≡ false → Clean t → Clean (b ∷ t)
 unfolding Clean
@@ -61,10 +60,10 @@ part t _ (g.number _ n h small) = number t n h
 part _ _ (g.wild b h) = clean-more b [] (clean-byte is_wild refl refl b h) none
 
 build-bytes : (x : List ℕ) → is_build_identifier x ≡ true → Clean x
-build-bytes x h = clean-all is_identifier_byte refl refl x (and_right _ (list_all is_identifier_byte x) h)
+build-bytes x h = clean-all is_identifier_byte refl refl x (and_parts _ (list_all is_identifier_byte x) h).1
 
 pre-bytes : (x : List ℕ) → is_pre_identifier x ≡ true → Clean x
-pre-bytes x h = build-bytes x (and_left (is_build_identifier x) _ h)
+pre-bytes x h = build-bytes x (and_parts (is_build_identifier x) _ h).0
 
 dot : (x t : List ℕ) → Clean x → Clean t → Clean (x ++ 46 ∷ t)
 unfolding Clean

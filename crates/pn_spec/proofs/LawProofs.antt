@@ -2,27 +2,23 @@
 use Rattle.std.proofs.Common.{◌≡◌, ℕ, true, false, List, [], ◌∷◌, ◌++◌, refl, sym, ap, ◌∙◌, subst, inl, inr}
 use Rattle.std.specs.Prelude.{◌==◌, ◌⊎◌, codes}
 use Rattle.std.specs.List.{list_all}
-use Rattle.std.proofs.lemmas.Bool.{cases_Bool, eqb-false}
+use Rattle.std.proofs.lemmas.Bool.{and_parts, cases_Bool, eqb-false}
+use Rattle.pn_ranges.proofs.Unreads.{later-rest}
 use Rattle.pn_ranges.specs.Bytes.{behind, is_space}
 use Rattle.pn_ranges.specs.Grammar.{AreSpaces}
-use Rattle.pn_ranges.proofs.Words.{and_left, and_right}
 use Rattle.pn_spec.specs.declared.spec.Spec.{Spec}
 use Rattle.pn_spec.specs.declared.spec.Spec.TheVariants as spec
 use Rattle.pn_spec.specs.Forms.{IsForm}
 use Rattle.pn_spec.specs.Laws.{Form, FormLaw, SpaceLaw, form_of, workspace, catalog, alias, bare}
 use Rattle.pn_spec.specs.Ranges.{has_foreign}
 use Rattle.pn_spec.specs.Tags.{is_tag}
-use Rattle.pn_spec.specs.Texts.{before_trimmed, trim_end, trimmed}
+use Rattle.pn_spec.specs.SpecTexts.{before_trimmed, trim_end, trimmed}
 use Rattle.pn_spec.proofs.Foreign.{foreign}
 
 -- spaces at both ends
-front-drop : (s u : List ℕ) → AreSpaces s → behind is_space (s ++ u) ≡ behind is_space u
-front-drop [] u h = refl
-front-drop (b ∷ s) u h = rw (and_left (is_space b) (list_all is_space s) h) (front-drop s u (and_right (is_space b) (list_all is_space s) h))
-
 end-none : (r : List ℕ) → AreSpaces r → trim_end r ≡ []
 end-none [] h = refl
-end-none (b ∷ r) h = ap (before_trimmed b) (end-none r (and_right (is_space b) (list_all is_space r) h)) ∙ rw (and_left (is_space b) (list_all is_space r) h) refl
+end-none (b ∷ r) h = ap (before_trimmed b) (end-none r (and_parts (is_space b) (list_all is_space r) h).1) ∙ rw (and_parts (is_space b) (list_all is_space r) h).0 refl
 
 end-drop : (t r : List ℕ) → AreSpaces r → trim_end (t ++ r) ≡ trim_end t
 end-drop [] r h = end-none r h
@@ -30,7 +26,7 @@ end-drop (b ∷ t) r h = ap (before_trimmed b) (end-drop t r h)
 
 behind-none : (r : List ℕ) → AreSpaces r → behind is_space r ≡ []
 behind-none [] h = refl
-behind-none (b ∷ r) h = rw (and_left (is_space b) (list_all is_space r) h) (behind-none r (and_right (is_space b) (list_all is_space r) h))
+behind-none (b ∷ r) h = rw (and_parts (is_space b) (list_all is_space r) h).0 (behind-none r (and_parts (is_space b) (list_all is_space r) h).1)
 
 inner-drop : (t r : List ℕ) → AreSpaces r → trimmed (t ++ r) ≡ trimmed t
 inner-drop [] r h = ap trim_end (behind-none r h)
@@ -40,7 +36,7 @@ inner-drop (b ∷ t) r h = elim (cases_Bool (is_space b)) [
 ]
 
 trimmed-same : (s t r : List ℕ) → AreSpaces s → AreSpaces r → trimmed (s ++ (t ++ r)) ≡ trimmed t
-trimmed-same s t r h k = ap trim_end (front-drop s (t ++ r) h) ∙ inner-drop t r k
+trimmed-same s t r h k = ap trim_end (later-rest s (t ++ r) h) ∙ inner-drop t r k
 
 pub space : SpaceLaw
 space s t r x h k = (subst (λ u. IsForm u x) (trimmed-same s t r h k), subst (λ u. IsForm u x) (sym (trimmed-same s t r h k)))

@@ -1,6 +1,7 @@
 -- A text names one project, and one package.
-use Rattle.std.proofs.Common.{◌≡◌, ◌≢◌, ℕ, Bool, true, false, List, [], ◌∷◌, ◌++◌, Option, Some, None, refl, sym, ap, ◌∙◌, inl, inr}
-use Rattle.std.specs.Prelude.{◌==◌, ◌||◌}
+use Rattle.std.proofs.Common.{◌≡◌, ◌≢◌, ℕ, true, false, List, [], ◌∷◌, ◌++◌, Option, Some, None, refl, sym, ap, ◌∙◌, inl, inr}
+use Rattle.std.specs.Prelude.{◌==◌}
+use Rattle.std.proofs.lemmas.Bool.{or_parts}
 use Rattle.pn_text.specs.Name.{is_name}
 use Rattle.pn_spec.specs.declared.want.Want.{Want}
 use Rattle.pn_spec.specs.declared.want.Want.TheVariants as want
@@ -9,21 +10,13 @@ use Rattle.pn_spec.specs.declared.workspace.WsWant.TheVariants as ws
 use Rattle.pn_spec.specs.Forms.{IsNamed, IsWant, IsWsWant}
 use Rattle.pn_spec.specs.Laws.{NameLaw, ProjectLaw}
 use Rattle.pn_spec.specs.Ranges.{has_foreign, is_foreign}
-use Rattle.pn_spec.specs.Texts.{has_at}
+use Rattle.pn_spec.specs.SpecTexts.{has_at}
 use Rattle.pn_spec.proofs.Ats.{at-once, last-at, name-not, tag-no-at}
 use Rattle.pn_spec.proofs.Foreign.{foreign}
 
-or-left : (x y : Bool) → (x || y) ≡ false → x ≡ false
-or-left true y h = h
-or-left false y h = refl
-
-or-right : (x y : Bool) → (x || y) ≡ false → y ≡ false
-or-right true y h = cc h
-or-right false y h = h
-
 own-at : (t : List ℕ) → has_foreign t ≡ false → has_at t ≡ false
 own-at [] h = refl
-own-at (b ∷ t) h = rw (or-left (b == 64) (b == 58) (or-left (is_foreign b) (has_foreign t) h), own-at t (or-right (is_foreign b) (has_foreign t) h)) refl
+own-at (b ∷ t) h = rw ((or_parts (b == 64) (b == 58) (or_parts (is_foreign b) (has_foreign t) h).0).0, own-at t (or_parts (is_foreign b) (has_foreign t) h).1) refl
 
 pub ws-no-at : (t : List ℕ) (w : WsWant) → IsWsWant t w → has_at t ≡ false
 ws-no-at t ws.Any h = ap has_at h

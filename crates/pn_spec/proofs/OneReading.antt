@@ -1,7 +1,7 @@
 -- A text has one reading, and none where it is refused.
-use Rattle.std.proofs.Common.{◌≡◌, ℕ, Bool, true, false, List, [], ◌∷◌, Option, Some, None, refl, sym, ap, subst, ◌∙◌, inl, inr, codes}
+use Rattle.std.proofs.Common.{◌≡◌, ℕ, true, false, List, [], ◌∷◌, Option, Some, None, refl, sym, ap, subst, ◌∙◌, inl, inr, codes}
 use Rattle.std.specs.Prelude.{◌==◌}
-use Rattle.std.proofs.lemmas.Bool.{eqb-false}
+use Rattle.std.proofs.lemmas.Bool.{both_ways, eqb-false}
 use Rattle.pn_ranges.specs.declared.fault.Stop.TheVariants as stop
 use Rattle.pn_ranges.specs.Grammar.{Spells}
 use Rattle.pn_ranges.specs.Limits.{Limit}
@@ -21,17 +21,13 @@ use Rattle.pn_spec.specs.Forms.{IsAlias, IsForm, IsNamed, IsSpec, IsWant, IsWork
 use Rattle.pn_spec.specs.Laws.{Form, workspace, catalog, alias, bare, form_of}
 use Rattle.pn_spec.specs.ReadingLaw.{ReadingLaw}
 use Rattle.pn_spec.specs.Refusals.{FitsNoAlias, FitsNoForm, FitsNoWant, FitsNoWorkspace, FitsNoWsWant}
-use Rattle.pn_spec.specs.Texts.{trimmed}
+use Rattle.pn_spec.specs.SpecTexts.{trimmed}
 use Rattle.pn_spec.proofs.LawProofs.{form}
 use Rattle.pn_spec.proofs.Named.{bare-front, name, one-parts, project, want-no-at, ws-no-at}
 
 abbrev head_of : List ℕ → ℕ
 head_of [] = 0
 head_of (b ∷ t) = b
-
-both : (b : Bool) → b ≡ true → b ≡ false → ⊥
-both true h k = cc k
-both false h k = cc h
 
 -- an operator alone is no range
 no-range : (t : List ℕ) (r : List (List Limit)) → first_fault start t ≡ Some (stop.Byte 0) → Spells t r → ⊥
@@ -120,7 +116,7 @@ form-one t x y h k = unlike t x y h k refl
 -- where nothing fits
 want-none : (t : List ℕ) (w : Want) → FitsNoWant t → IsWant t w → ⊥
 want-none t (want.Range r) f h = f.no_range r h
-want-none t (want.Tag x) f h = both _ h.bytes f.no_tag
+want-none t (want.Tag x) f h = both_ways _ f.no_tag h.bytes
 
 ws-none : (t : List ℕ) (w : WsWant) → FitsNoWsWant t → IsWsWant t w → ⊥
 ws-none t ws.Any f h = f.no_any h
@@ -133,19 +129,19 @@ workspace-none t w None f h = ws-none t w f.bare h
 workspace-none t w (Some n) f h = ws-none h.0 w (f.named n h.0 h.1 h.2) h.3
 
 alias-none : (t n : List ℕ) (w : Want) → FitsNoAlias t → IsAlias t n w → ⊥
-alias-none t n w f (inl h) = both (is_name n) h.1 (ap is_name (sym h.0) ∙ f.bare)
+alias-none t n w f (inl h) = both_ways (is_name n) (ap is_name (sym h.0) ∙ f.bare) h.1
 alias-none t n w f (inr h) = want-none h.0 w (f.named n h.0 h.1 h.2) h.3
 
 form-none : (t : List ℕ) (x : Spec) → FitsNoForm t → IsForm t x → ⊥
 form-none t (spec.Workspace w) f (r, e, h) = workspace-none r w.want w.name (f.workspace r e) h
-form-none t (spec.Catalog c) f (r, e, (h, i)) = both _ h (f.catalog r e)
+form-none t (spec.Catalog c) f (r, e, (h, i)) = both_ways _ (f.catalog r e) h
 form-none t (spec.Alias n w) f (r, e, h) = alias-none r n w (f.alias r e) h
 form-none t (spec.Range s) f h = f.bare.no_range s h
-form-none t (spec.Tag x) f h = both _ h.bytes f.bare.no_tag
+form-none t (spec.Tag x) f h = both_ways _ f.bare.no_tag h.bytes
 
 entry-none : (text : List ℕ) (x : Spec) → IsNoEntry text → IsSpec text x → is_entry x ≡ true → ⊥
 entry-none text x (inl f) h k = form-none (trimmed text) x f h
-entry-none text x (inr (y, i, e)) h k = both (is_entry x) k (ap is_entry (form-one (trimmed text) x y h i) ∙ e)
+entry-none text x (inr (y, i, e)) h k = both_ways (is_entry x) (ap is_entry (form-one (trimmed text) x y h i) ∙ e) k
 
 pub readings : ReadingLaw
 readings = record { one = λ text x y h k. form-one (trimmed text) x y h k; none = λ text x f h. form-none (trimmed text) x f h; entry = entry-none }

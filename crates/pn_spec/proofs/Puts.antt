@@ -5,17 +5,16 @@ use Rattle.std.specs.Cmp.{IsTotalOrder}
 use Rattle.std.specs.Cmp.Lexicographic.{slice_cmp}
 use Rattle.std.specs.List.{All, AllByRecursion}
 use Rattle.std.specs.List.Sorted.{IsStrictlySortedBy}
-use Rattle.std.specs.Ordering.{nat_cmp, ordering_reverse, ordering_then, is_eq}
+use Rattle.std.specs.Ordering.{nat_cmp, ordering_reverse, ordering_then}
 use Rattle.std.specs.Str.{bytes_eq}
 use Rattle.std.specs.declared.cmp.Ordering.{Ordering}
 use Rattle.std.specs.declared.cmp.Ordering.TheVariants.{Less, Equal, Greater}
-use Rattle.std.proofs.lemmas.Bool.{cases_Bool}
+use Rattle.std.proofs.lemmas.Bool.{and_parts, cases_Bool}
 use Rattle.std.proofs.lemmas.Cmp.{nat_list_cmp_total, on_total, then_total, tied_itself}
 use Rattle.std.proofs.lemmas.List.{drop_all, drop_more, set_split, take_more}
 use Rattle.std.proofs.lemmas.List.Elements.{All-from_recursion, All-nil, recursion_from_All}
 use Rattle.std.proofs.lemmas.Map.Lookups.{exact_bytes}
-use Rattle.std.proofs.lemmas.Map.Text.{is_eq-slice_cmp}
-use Rattle.pn_ranges.proofs.Words.{and_left, and_right}
+use Rattle.std.proofs.lemmas.Slice.Eq.{bytes_eq-Decides}
 use Rattle.pn_spec.specs.declared.entry.CatalogEntry.{CatalogEntry}
 use Rattle.pn_spec.specs.Entries.{AreCatalogs, IsRead, PutLaw, by_order, entry_cmp, is_at, put_in, spec_at}
 
@@ -60,22 +59,14 @@ tied-at x e c n h =
     ap (λ y. bytes_eq y c && bytes_eq x.name n) (exact_bytes x.catalog e.catalog both.0)
     ∙ ap (λ y. bytes_eq e.catalog c && bytes_eq y n) (exact_bytes x.name e.name both.1)
 
-eq-is : (o : Ordering) → is_eq o ≡ true → o ≡ Equal
-eq-is Less h = cc h
-eq-is Equal h = refl
-eq-is Greater h = cc h
-
-same-bytes : (xs ys : List ℕ) → bytes_eq xs ys ≡ true → xs ≡ ys
-same-bytes xs ys h = exact_bytes xs ys (eq-is (slice_cmp nat_cmp xs ys) (is_eq-slice_cmp xs ys ∙ h))
-
 same-cmp : (xs ys zs : List ℕ) → bytes_eq xs zs ≡ true → bytes_eq ys zs ≡ true → slice_cmp nat_cmp xs ys ≡ Equal
 same-cmp xs ys zs h k =
-    subst (λ y. slice_cmp nat_cmp xs y ≡ Equal) (same-bytes xs zs h ∙ sym (same-bytes ys zs k)) (tied_itself nat_list_cmp_total xs)
+    subst (λ y. slice_cmp nat_cmp xs y ≡ Equal) ((bytes_eq-Decides xs zs).0 h ∙ sym ((bytes_eq-Decides ys zs).0 k)) (tied_itself nat_list_cmp_total xs)
 
 one-place : (x e : CatalogEntry) (c n : List ℕ) → is_at c n x ≡ true → is_at c n e ≡ true → entry_cmp x e ≡ Equal
 one-place x e c n h k =
-    ap (λ o. ordering_then o (slice_cmp nat_cmp x.name e.name)) (same-cmp x.catalog e.catalog c (and_left (bytes_eq x.catalog c) _ h) (and_left (bytes_eq e.catalog c) _ k))
-    ∙ same-cmp x.name e.name n (and_right (bytes_eq x.catalog c) _ h) (and_right (bytes_eq e.catalog c) _ k)
+    ap (λ o. ordering_then o (slice_cmp nat_cmp x.name e.name)) (same-cmp x.catalog e.catalog c (and_parts (bytes_eq x.catalog c) _ h).0 (and_parts (bytes_eq e.catalog c) _ k).0)
+    ∙ same-cmp x.name e.name n (and_parts (bytes_eq x.catalog c) _ h).1 (and_parts (bytes_eq e.catalog c) _ k).1
 
 pub put : PutLaw
 put e [] c n = refl

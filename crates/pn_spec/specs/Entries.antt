@@ -12,7 +12,7 @@ use Rattle.pn_spec.specs.declared.spec.Spec.{Spec}
 use Rattle.pn_spec.specs.declared.spec.Spec.TheVariants as spec
 use Rattle.pn_spec.specs.Forms.{IsSpec}
 use Rattle.pn_spec.specs.Refusals.{FitsNoForm}
-use Rattle.pn_spec.specs.Texts.{trimmed}
+use Rattle.pn_spec.specs.SpecTexts.{trimmed}
 
 -- an entry is an alias, a range or a tag
 abbrev pub is_entry : Spec → Bool

@@ -11,7 +11,7 @@ use Rattle.pn_spec.specs.declared.workspace.WsWant.{WsWant}
 use Rattle.pn_spec.specs.declared.workspace.WsWant.TheVariants as ws
 use Rattle.pn_spec.specs.Ranges.{IsNoRange}
 use Rattle.pn_spec.specs.Tags.{is_catalog, is_tag, or_default}
-use Rattle.pn_spec.specs.Texts.{trimmed}
+use Rattle.pn_spec.specs.SpecTexts.{trimmed}
 
 -- a tag is no range
 pub record IsTag (t x : List ℕ) : Type 0 where

@@ -1,4 +1,4 @@
-pub mod Texts
+pub mod SpecTexts
 pub mod Tags
 pub mod Ranges
 pub mod Forms

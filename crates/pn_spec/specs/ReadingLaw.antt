@@ -4,7 +4,7 @@ use Rattle.pn_spec.specs.declared.spec.Spec.{Spec}
 use Rattle.pn_spec.specs.Entries.{IsNoEntry, is_entry}
 use Rattle.pn_spec.specs.Forms.{IsSpec}
 use Rattle.pn_spec.specs.Refusals.{FitsNoForm}
-use Rattle.pn_spec.specs.Texts.{trimmed}
+use Rattle.pn_spec.specs.SpecTexts.{trimmed}
 
 -- a text is at most one specifier; where no form fits it is none, and where it is refused as an entry of a catalog it is
 -- none that an entry has

@@ -5,7 +5,7 @@ use Rattle.pn_spec.specs.declared.fault.SpecFault.{SpecFault}
 use Rattle.pn_spec.specs.declared.fault.SpecFault.TheVariants.{Unsupported, Memory}
 use Rattle.pn_spec.specs.Ranges.{IsNoRange}
 use Rattle.pn_spec.specs.Tags.{is_catalog, is_tag}
-use Rattle.pn_spec.specs.Texts.{trimmed}
+use Rattle.pn_spec.specs.SpecTexts.{trimmed}
 
 -- neither a range nor a tag
 pub record FitsNoWant (t : List ℕ) : Type 0 where

@@ -1,10 +1,13 @@
 // The refusals.
 use pn_text::Memory;
+use thiserror::Error;
 
 /// Why a text is no specifier: no form fits it, or there was no memory.
-#[derive(Clone, Copy, Debug, PartialEq, Eq)]
+#[derive(Clone, Copy, Debug, Error, PartialEq, Eq)]
 pub enum SpecFault {
+    #[error("no form of a specifier fits")]
     Unsupported,
+    #[error("out of memory")]
     Memory,
 }
 

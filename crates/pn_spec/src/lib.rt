@@ -2,6 +2,10 @@
 //!
 //! `Spec::read` is exact: it gives what the text says in the first form that fits, or says that none does. Contracts
 //! see a range as its lists of limits, and a name, a tag and a catalog as their bytes.
+//!
+//!     let spec = Spec::read(alloc, "npm:react@^18.2.0")?;
+//!     catalogs.put(alloc, catalog, name, text)?;
+//!     let found = catalogs.get(&catalog, &name);
 #![tactic(auto)]
 
 mod alias;

@@ -2,7 +2,7 @@
 ghost use Rattle.std.specs.Prelude.{◌≡◌, ◌++◌, ◌∷◌, [], ℕ, MatchOption, IfOk, IfErr, OnOk, true, false};
 ghost use Rattle.pn_ranges.specs.Bytes.{behind, is_space};
 ghost use Rattle.pn_text.specs.Name.{is_name};
-ghost use Rattle.pn_spec.specs.Texts.{HasNoPart, IsParted, trimmed, trim_end};
+ghost use Rattle.pn_spec.specs.SpecTexts.{HasNoPart, IsParted, trimmed, trim_end};
 ghost use Rattle.pn_spec.specs.Refusals.{Refuses};
 
 use crate::fault::SpecFault;

@@ -53,7 +53,7 @@ fn read(alloc: Global, text: &str) -> Result<String, AllocError> {
     }
 }
 
-const READ: [(&str, &str); 56] = [
+const READ: &[(&str, &str)] = &[
     ("workspace:*", "workspace project *"),
     ("workspace:^", "workspace project ^"),
     ("workspace:~", "workspace project ~"),
@@ -115,7 +115,7 @@ const READ: [(&str, &str); 56] = [
 #[test]
 fn each_form_is_read(rt: HostRuntime) -> Result<(), Fail> {
     let alloc = rt.alloc();
-    for (text, wanted) in READ {
+    for &(text, wanted) in READ {
         let found = read(alloc, text)?;
         assert!(rt; found.as_str() == wanted, "{text}");
     }
@@ -171,7 +171,7 @@ fn found(alloc: Global, all: &Catalogs, catalog: &str, name: &str) -> Result<Str
 }
 
 // A catalog, a name, a text, and whether it is put there.
-const PUT: [(&str, &str, &str, bool); 7] = [
+const PUT: &[(&str, &str, &str, bool)] = &[
     ("old", "react", "^17.0.0", true),
     ("default", "react", "latest", true),
     ("default", "@s/b", "npm:c@next", true),
@@ -181,7 +181,7 @@ const PUT: [(&str, &str, &str, bool); 7] = [
     ("default", "d", "file:../d", false),
 ];
 
-const FOUND: [(&str, &str, &str); 5] = [
+const FOUND: &[(&str, &str, &str)] = &[
     ("default", "react", "tag next"),
     ("default", "@s/b", "c@tag next"),
     ("old", "react", "range"),
@@ -193,13 +193,13 @@ const FOUND: [(&str, &str, &str); 5] = [
 fn catalogs_find_their_entries(rt: HostRuntime) -> Result<(), Fail> {
     let alloc = rt.alloc();
     let mut all = Catalogs::new(alloc);
-    for (catalog, name, text, wanted) in PUT {
+    for &(catalog, name, text, wanted) in PUT {
         assert!(rt;
             put(alloc, &mut all, catalog, name, text)? == wanted,
             "{text}"
         );
     }
-    for (catalog, name, wanted) in FOUND {
+    for &(catalog, name, wanted) in FOUND {
         let found = found(alloc, &all, catalog, name)?;
         assert!(rt; found.as_str() == wanted, "{catalog} {name}");
     }

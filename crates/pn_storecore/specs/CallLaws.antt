@@ -2,7 +2,6 @@
 use Rattle.std.specs.Prelude.{◌≡◌, ◌≢◌, ◌⊎◌, ℕ, ◌≤◌, Bool, List, length, take, Option, Some, None, Result, IfOk, OnOk, OnErr, IfSome, Vec}
 use Rattle.std.specs.Bool.{OnTrue, OnFalse}
 use Rattle.std.specs.List.{Contains}
-use Rattle.std.specs.Option.{ForSome}
 use Rattle.std.specs.Global.{Global}
 use Rattle.sha2.specs.Sha512.{sha512}
 use Rattle.pn_text.specs.declared.fault.DevFault.{DevFault}
@@ -11,12 +10,12 @@ use Rattle.pn_storecore.specs.declared.step.Place.{Place}
 use Rattle.pn_storecore.specs.declared.step.Place.TheVariants.{Files, Listings}
 use Rattle.pn_storecore.specs.declared.step.StoreStep.{StoreStep}
 use Rattle.pn_storecore.specs.declared.step.StoreStep.TheVariants as step
-use Rattle.pn_storecore.specs.World.{empty, objects, first_byte}
+use Rattle.pn_storecore.specs.World.{objects, first_byte}
 use Rattle.pn_storecore.specs.Stored.{IsStoredFile}
-use Rattle.pn_storecore.specs.Lawful.{AreLawfulOrDiscards}
+use Rattle.pn_storecore.specs.Sound.{MayStand}
 use Rattle.pn_storecore.specs.Seen.{Seen, Keeps, Asks, fresh}
 use Rattle.pn_storecore.specs.Calls.{Answers, Does, Appends, IsClaim, IsRead, AreAddresses, AreNumbersOf}
-use Rattle.pn_storecore.specs.Held.{Holds, HasShard, HasObject, HasBytes, HasDigest, IsFree, IsSoundStore, IsIn, Spares, files_after, files_with, no_files, TempFiles}
+use Rattle.pn_storecore.specs.Held.{Holds, HasShard, HasObject, HasBytes, HasDigest, IsFree, IsSoundStore, IsAddressedStore, IsIn, Spares, files_after, files_with, no_files, TempFiles}
 use Rattle.pn_storecore.specs.Grew.{Did, Grew, Stood, Took, TookNone, Was, ReadTo}
 
 -- What an installer holds and knows lets it make a step.
@@ -47,8 +46,8 @@ pub record HoldsLaw : Type 0 where
   pub again : (files : TempFiles) (n : ℕ) (old new : Option (List ℕ)) → files_with (files_with files n old) n new ≡ files_with files n new
   pub emptied : (n : ℕ) → files_with no_files n None ≡ no_files
 
--- What stands after a call that was not refused: what it made, published, or found. By the law of the
--- trait, what stands has its address as digest.
+-- What stands after a call that was not refused: what it made, published, or found. In a store that isn't
+-- damaged, what stands has its address as digest.
 pub record StandsLaw : Type 0 where
   pub shard : (old new : Seen) (place : Place) (first : ℕ) (result : Result (Unit {0}) DevFault) → Keeps old new → Does old (step.Shard place first) new result → OnOk result (HasShard new place first)
   pub file : (old new : Seen) (k n : ℕ) (at bytes : List ℕ) (files : TempFiles) (result : Result (Unit {0}) DevFault) → Keeps old new → Does old (step.PublishFile k n at) new result → Holds old k files → files n ≡ Some bytes
@@ -60,7 +59,7 @@ pub record StandsLaw : Type 0 where
   pub list : (old new : Seen) (place : Place) (result : Result (Vec (List ℕ) Global) DevFault) → Keeps old new → Answers old step.Read new result (λ w all. AreAddresses (objects w place) all.items)
       → IfOk result (λ all. (at : List ℕ) → Contains all.items at → HasObject new place at)
   pub object : (s : Seen) (place : Place) (at bytes : List ℕ) → HasBytes s place at bytes → HasObject s place at
-  pub digest : (s : Seen) (place : Place) (at : List ℕ) → ForSome s.journal (λ j. ∥ AreLawfulOrDiscards empty j ∥₁) → HasObject s place at → HasDigest s place at
+  pub digest : (s : Seen) (place : Place) (at : List ℕ) → IsAddressedStore s → HasObject s place at → HasDigest s place at
 
 -- What each call did to the journal, whatever it answered.
 pub record DidLaw : Type 0 where
@@ -85,6 +84,8 @@ pub record GrewLaw : Type 0 where
   pub object : (old new : Seen) (place : Place) (at : List ℕ) → Grew old new → HasObject old place at → HasObject new place at
   pub sound : (old new : Seen) → Grew old new → IsSoundStore old → IsSoundStore new
   pub at_first : (me : ℕ) → IsSoundStore (fresh me)
+  pub digests : (s : Seen) → IsSoundStore s → IsAddressedStore s
+  pub addressed : (old new : Seen) → Grew old new → IsAddressedStore old → IsAddressedStore new
 
 -- Whose step made a number's folder. A claim that answers true made it, and one that answers false
 -- found it. After a refusal it was made, or no step of the installer's made it.
@@ -101,10 +102,12 @@ pub record ClaimsLaw : Type 0 where
   pub took_before : (a b c : Seen) (k : ℕ) → Grew a b → Took k b c → Took k a c
   pub took_behind : (a b c : Seen) (k : ℕ) → Took k a b → Grew b c → Took k a c
 
--- What stood at an address at a step of some calls: what a read found, and what stands at their end.
+-- What stood at an address at a step of some calls: what a read found, and what stands at their end. Where the
+-- store wasn't damaged at their entry, it had the address as digest.
 pub record WasLaw : Type 0 where
   pub read : (old new : Seen) (place : Place) (at : List ℕ) (from : ℕ) (into : List ℕ) (result : Result (Option ℕ) DevFault) → Keeps old new → Answers old step.Read new result (λ w found. IsRead ((objects w place).bytes at) from into found)
       → IfOk result (λ found. IfSome old.journal (λ j. ReadTo place at from into found j new.journal))
   pub now : (old new : Seen) (place : Place) (at bytes : List ℕ) → Grew old new → HasBytes new place at bytes → Was place at (Some bytes) old new
   pub before : (a b c : Seen) (place : Place) (at : List ℕ) (bytes : Option (List ℕ)) → Grew a b → Was place at bytes b c → Was place at bytes a c
   pub behind : (a b c : Seen) (place : Place) (at : List ℕ) (bytes : Option (List ℕ)) → Was place at bytes a b → Grew b c → Was place at bytes a c
+  pub digest : (old new : Seen) (place : Place) (at bytes : List ℕ) → Grew old new → IsAddressedStore old → Was place at (Some bytes) old new → IfSome old.journal (λ j. MayStand place at bytes)

@@ -1,10 +1,11 @@
 -- What the calls on a store make of its journal, where that is told, and what they answer.
-use Rattle.std.specs.Prelude.{◌≡◌, ◌≢◌, ◌⊎◌, ℕ, ◌-◌, ◌<◌, ◌≤◌, Bool, true, false, List, [], ◌∷◌, ◌++◌, length, take, drop, Option, Some, None, Result, IfOk, OnErr, IfSome}
+use Rattle.std.specs.Prelude.{◌≡◌, ◌≢◌, ◌⊎◌, ℕ, ◌≤◌, Bool, true, false, List, [], ◌∷◌, ◌++◌, length, take, Option, Some, None, Result, IfOk, OnErr, IfSome}
 use Rattle.std.specs.List.{Contains}
 use Rattle.std.specs.List.Sorted.{IsStrictlySortedBy}
 use Rattle.std.specs.Cmp.Lexicographic.{slice_cmp}
 use Rattle.std.specs.Ordering.{nat_cmp}
 use Rattle.pn_text.specs.declared.fault.DevFault.{DevFault}
+use Rattle.pn_text.specs.Pieces.{IsPieceOf}
 use Rattle.pn_storecore.specs.declared.step.StoreStep.{StoreStep}
 use Rattle.pn_storecore.specs.declared.step.StoreStep.TheVariants.{Append}
 use Rattle.pn_storecore.specs.World.{Temp, Objects, World, Stands}
@@ -43,18 +44,12 @@ abbrev pub IsClaim : ℕ → World → Bool → Type 0
 IsClaim k w true = w.temps k ≡ None
 IsClaim k w false = w.temps k ≢ None
 
--- So many of the bytes from a place on came in; none exactly at or past the end.
-pub record IsPiece (bytes : List ℕ) (from : ℕ) (into : List ℕ) (n : ℕ) : Type 0 where
-  pub came : take n into ≡ take n (drop from bytes)
-  pub within : n ≤ length bytes - from
-  pub some : from < length bytes → 0 < n
-
 -- none exactly where nothing stands at the address
 abbrev pub IsRead : Option (List ℕ) → ℕ → List ℕ → Option ℕ → Type 0
 IsRead None from into None = Unit {0}
 IsRead None from into (Some n) = ⊥
 IsRead (Some bytes) from into None = ⊥
-IsRead (Some bytes) from into (Some n) = IsPiece bytes from into n
+IsRead (Some bytes) from into (Some n) = IsPieceOf bytes from into n
 
 -- The addresses at which something stands, each once, in byte order.
 pub record AreAddresses (o : Objects) (all : List (List ℕ)) : Type 0 where

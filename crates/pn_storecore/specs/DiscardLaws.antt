@@ -15,7 +15,7 @@ use Rattle.pn_storecore.specs.World.{World, objects}
 use Rattle.pn_storecore.specs.Steps.{Event, Journal, discarded, world_of}
 use Rattle.pn_storecore.specs.Seen.{Seen, Keeps}
 use Rattle.pn_storecore.specs.Calls.{Answers, Does, IsRead, AreAddresses, AreNumbersOf}
-use Rattle.pn_storecore.specs.Held.{HasShard, HasObject, Lacks, IsFree, IsSoundStore}
+use Rattle.pn_storecore.specs.Held.{HasShard, HasObject, Lacks, IsFree, IsSoundStore, IsAddressedStore}
 use Rattle.pn_storecore.specs.Grew.{Did}
 
 -- the discard is of what stands at this address
@@ -52,7 +52,8 @@ abbrev pub IsWorld : Seen → World → Type 0
 IsWorld s w = ForSome s.journal (λ j. world_of j ≡ w)
 
 -- A discard takes away what it is of, and leaves the rest. Of a temporary folder or a listing it leaves a
--- sound store, and of a file where no listing that stands names it and no other installer is at work.
+-- sound store, and of a file where no listing that stands names it and no other installer is at work. What is
+-- left has its address as digest, if it was so.
 pub record DiscardLaw : Type 0 where
   pub temp : (old new : Seen) (k : ℕ) (result : Result (Unit {0}) DevFault) → Keeps old new → Does old (step.Discard (what.Temp k)) new result → OnOk result (IsFree new k)
   pub file : (old new : Seen) (at : List ℕ) (result : Result (Unit {0}) DevFault) → Keeps old new → Does old (step.Discard (what.File at)) new result → OnOk result (Lacks new Files at)
@@ -62,6 +63,7 @@ pub record DiscardLaw : Type 0 where
   pub sound_temp : (old new : Seen) (k : ℕ) → Did (step.Discard (what.Temp k)) old new → IsSoundStore old → IsSoundStore new
   pub sound_listing : (old new : Seen) (at : List ℕ) → Did (step.Discard (what.Listing at)) old new → IsSoundStore old → IsSoundStore new
   pub sound_file : (old new : Seen) (at : List ℕ) → Did (step.Discard (what.File at)) old new → IsUndisturbed old new → ForSome old.journal (λ j. IsUnnamed at (world_of j)) → IsSoundStore old → IsSoundStore new
+  pub addressed : (old new : Seen) (taken : Discard) → Did (step.Discard taken) old new → IsAddressedStore old → IsAddressedStore new
 
 -- Beside no other installer each call's world is the one at its entry, and a discard changes that alone.
 -- What is undisturbed as a whole is so in its parts.

@@ -9,7 +9,7 @@ use Rattle.pn_storecore.specs.declared.step.StoreStep.{StoreStep}
 use Rattle.pn_storecore.specs.declared.step.StoreStep.TheVariants.{Create, Append, PublishFile, PublishListing, DropTemp, Discard}
 use Rattle.pn_storecore.specs.World.{objects, Stands}
 use Rattle.pn_storecore.specs.Steps.{world_of}
-use Rattle.pn_storecore.specs.Sound.{IsSound}
+use Rattle.pn_storecore.specs.Sound.{IsSound, IsAddressed}
 use Rattle.pn_storecore.specs.Seen.{Seen}
 
 -- the bytes of each file of a folder, by its number
@@ -54,6 +54,10 @@ IsFree s k = ForSome s.journal (λ j. (world_of j).temps k ≡ None)
 -- the store is sound
 abbrev pub IsSoundStore : Seen → Type 0
 IsSoundStore s = ForSome s.journal (λ j. IsSound (world_of j))
+
+-- what stands in the store has its address as digest
+abbrev pub IsAddressedStore : Seen → Type 0
+IsAddressedStore s = ForSome s.journal (λ j. IsAddressed (world_of j))
 
 -- the step is on a file in the folder of the number
 abbrev pub IsIn : ℕ → StoreStep → Type 0

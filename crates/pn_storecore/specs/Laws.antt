@@ -1,25 +1,25 @@
 -- What lawful steps of any number of installers leave.
-use Rattle.std.specs.Prelude.{◌≡◌, ◌≢◌, ℕ, ◌≤◌, true, List, length, take, Some, None}
+use Rattle.std.specs.Prelude.{◌≡◌, ◌≢◌, ℕ, true, List, take, Some, None}
 use Rattle.std.specs.List.{AllByRecursion}
 use Rattle.sha2.specs.Sha512.{sha512}
 use Rattle.pn_digest.specs.Listing.{Names}
-use Rattle.pn_storecore.specs.declared.step.Place.{Place}
 use Rattle.pn_storecore.specs.declared.step.StoreStep.{StoreStep}
 use Rattle.pn_storecore.specs.declared.step.StoreStep.TheVariants.{Claim, DropTemp}
-use Rattle.pn_storecore.specs.World.{Objects, World, empty, objects, Stands, owner_of, claimed_by}
-use Rattle.pn_storecore.specs.Stored.{file_limit}
+use Rattle.pn_storecore.specs.World.{Objects, World, empty, Stands, owner_of, claimed_by}
 use Rattle.pn_storecore.specs.Steps.{Event, Journal, after, world_after, world_of}
 use Rattle.pn_storecore.specs.Lawful.{IsLawful, AreLawful, AreOthers, IsDiscard, AreLawfulOrDiscards}
-use Rattle.pn_storecore.specs.Sound.{IsSound}
+use Rattle.pn_storecore.specs.Sound.{IsSound, IsAddressed}
 
--- The empty store is sound, and a sound one stays so after each of the steps. So a told journal without
--- discards leaves a sound one, and in any told journal what stands at an address has it as digest.
+-- The empty store is sound, and a sound one stays so after each lawful step. What stands in a sound store has its
+-- address as digest, and that stays so after discards too. So a lawful journal without discards leaves a sound
+-- store, and after any lawful journal, discards aside, what stands has its address as digest.
 pub record SoundLaw : Type 0 where
   pub at_first : IsSound empty
   pub stays : (w : World) (steps : Journal) → IsSound w → AreLawful w steps → (k : ℕ) → IsSound (world_after w (take k steps))
+  pub digests : (w : World) → IsSound w → IsAddressed w
+  pub digests_stay : (w : World) (steps : Journal) → IsAddressed w → AreLawfulOrDiscards w steps → (k : ℕ) → IsAddressed (world_after w (take k steps))
   pub told : (journal : Journal) → ∥ AreLawfulOrDiscards empty journal ∥₁ → AllByRecursion (λ (e : Event). IsDiscard e.1 → ⊥) journal → ∥ IsSound (world_of journal) ∥₁
-  pub addressed : (journal : Journal) → ∥ AreLawfulOrDiscards empty journal ∥₁ → (place : Place) (at bytes : List ℕ) → (objects (world_of journal) place).bytes at ≡ Some bytes → sha512 bytes ≡ at
-  pub short : (journal : Journal) → ∥ AreLawfulOrDiscards empty journal ∥₁ → (at bytes : List ℕ) → (world_of journal).files.bytes at ≡ Some bytes → length bytes ≤ file_limit
+  pub addressed : (journal : Journal) → ∥ AreLawfulOrDiscards empty journal ∥₁ → IsAddressed (world_of journal)
 
 -- Where something stood, something stands that has the address as digest.
 pub record KeepsObjects (old new : Objects) : Type 0 where

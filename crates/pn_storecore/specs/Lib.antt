@@ -6,15 +6,7 @@ pub mod Sound
 pub mod Laws
 pub mod Seen
 pub mod Calls
-pub mod Maps
-pub mod Kept
-pub mod Sets
-pub mod Told
-pub mod Came
 pub mod Held
 pub mod Grew
 pub mod CallLaws
 pub mod DiscardLaws
-pub mod Script
-pub mod Schedule
-pub mod Stores

@@ -2,17 +2,14 @@
 use Rattle.std.specs.Prelude.{◌≡◌, ℕ, ◌≤◌, List, length}
 use Rattle.std.specs.List.{All}
 use Rattle.sha2.specs.Sha512.{sha512}
+use Rattle.pn_text.specs.declared.limits.TheConstants.{FILE_LIMIT}
 use Rattle.pn_digest.specs.Listing.{Entry, IsListingText, Names}
 use Rattle.pn_storecore.specs.World.{Objects, Stands}
-
--- the most bytes that a stored file may have
-abbrev pub file_limit : ℕ
-file_limit = 268435456
 
 -- A file's bytes at an address.
 pub record IsStoredFile (at bytes : List ℕ) : Type 0 where
   pub addressed : sha512 bytes ≡ at
-  pub short : length bytes ≤ file_limit
+  pub short : length bytes ≤ FILE_LIMIT
 
 -- each file of the listing stands
 abbrev pub AllStand : Objects → List Entry → Type 0

@@ -1,10 +1,8 @@
 // A store, by the journal of the steps on it.
-ghost use Rattle.std.specs.Prelude.{◌≡◌, ◌≤◌, ◌<◌, Some, IfOk, IfSome, length};
+ghost use Rattle.std.specs.Prelude.{◌≤◌, ◌<◌, IfOk, IfSome, length};
 ghost use Rattle.pn_text.specs.Causes.{HasCause};
-ghost use Rattle.pn_storecore.specs.World.{empty, objects};
-ghost use Rattle.pn_storecore.specs.Steps.{Journal};
+ghost use Rattle.pn_storecore.specs.World.{objects};
 ghost use Rattle.pn_storecore.specs.declared.step.StoreStep.TheVariants as step;
-ghost use Rattle.pn_storecore.specs.Lawful.{AreLawfulOrDiscards};
 ghost use Rattle.pn_storecore.specs.Seen.{Seen, Keeps, Asks};
 ghost use Rattle.pn_storecore.specs.Calls.{Answers, Does, Appends, IsClaim, IsRead, AreAddresses, AreNumbersOf};
 
@@ -15,7 +13,8 @@ use pn_text::DevFault;
 /// A store that several installers share. Each call is one step of the installer that makes it, after
 /// any lawful steps of others, and answers by the world at that point. A step that must be lawful is
 /// asked to be so where the journal is told. After a refusal the call's own step was made or not. A
-/// call answers `Failed` only where the count of faults rose in it.
+/// call answers `Failed` only where the count of faults rose in it. What steps came before the first
+/// call isn't said: a told store may be damaged, and what rests on a sound one has that as a premise.
 pub trait StoreDisk {
     /// The journal where it is told, the installer's number, and the count of faults.
     ghost seen: { Self → Seen };
@@ -100,7 +99,4 @@ pub trait StoreDisk {
         ensures step { Does (seen self.old) (step.Discard what) (seen self.new) result }
         ensures kept { Keeps (seen self.old) (seen self.new) }
         ensures cause { HasCause (seen self.old).faults (seen self.new).faults result };
-
-    /// Each step of a told journal was lawful at its place, or it discarded something.
-    ghost lawful: { (disk : Self) (j : Journal) → (seen disk).journal ≡ Some j → ∥ AreLawfulOrDiscards empty j ∥₁ };
 }

@@ -4,8 +4,8 @@ ghost use Rattle.pn_storecore.specs.CallLaws.{AsksLaw, HoldsLaw, StandsLaw, DidL
 ghost use Rattle.pn_storecore.specs.DiscardLaws.{DiscardLaw, AloneLaw};
 
 /// The empty store is sound. Lawful steps of any number of installers leave a sound world after each
-/// of them. An installer that stops makes no further step. In every told journal, discards or not,
-/// what stands at an address has it as its digest.
+/// of them. An installer that stops makes no further step. What stands in a sound store has its address
+/// as its digest, also after discards.
 pub fn sound_law()
     ensures { SoundLaw }
 {}
@@ -38,7 +38,8 @@ pub fn holds_law()
     ensures { HoldsLaw }
 {}
 
-/// What was made, published or found stands, and what stands has its address as its digest.
+/// What was made, published or found stands, and in a store that isn't damaged it has its address as
+/// its digest.
 pub fn stands_law()
     ensures { StandsLaw }
 {}
@@ -55,7 +56,8 @@ pub fn leaves_law()
 {}
 
 /// Whatever a call answers whose step was asked for, the journal grew by lawful steps. So something
-/// still stands where something stood, and a sound store is sound. No discard is such a call.
+/// still stands where something stood, and a store that was sound, or not damaged, is so still. No
+/// discard is such a call.
 pub fn grew_law()
     ensures { GrewLaw }
 {}
@@ -67,13 +69,14 @@ pub fn claims_law()
 {}
 
 /// What a read found is by what stood at the address at a step of the call, and what stood at a step of
-/// a call stood at one of the calls around it.
+/// a call stood at one of the calls around it. In a store that isn't damaged it had its address as its
+/// digest.
 pub fn was_law()
     ensures { WasLaw }
 {}
 
-/// A discard takes away what it is of and leaves what else stands. It leaves a sound store, if it is of
-/// a temporary folder, of a listing, or of a file that no listing names.
+/// A discard takes away what it is of and leaves what else stands, each at its digest. It leaves a sound
+/// store, if it is of a temporary folder, of a listing, or of a file that no listing names.
 pub fn discard_law()
     ensures { DiscardLaw }
 {}

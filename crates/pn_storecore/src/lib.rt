@@ -10,36 +10,14 @@
 #![tactic(auto)]
 
 mod bytes;
-mod check;
-mod conditions;
 mod disk;
-mod folder;
 mod laws;
-mod ledger;
-mod mem;
-mod objects;
-mod others;
-mod piece;
-mod schedule;
 mod step;
-mod sure;
-mod temps;
-mod turns;
-mod world;
 
 pub use bytes::Bytes;
-pub use conditions::FILE_LIMIT;
 pub use disk::StoreDisk;
 pub use laws::{
     alone_law, asks_law, claims_law, did_law, discard_law, grew_law, holds_law, leaves_law,
     owner_law, place_law, published_law, sound_law, stands_law, was_law,
 };
-pub use mem::MemStore;
 pub use step::{Discard, Place, StoreStep};
-pub use sure::SureStore;
-pub use world::StoreWorld;
-
-#[cfg(test)]
-mod puts;
-#[cfg(test)]
-mod tests;

@@ -1,17 +1,16 @@
 -- Lemmas on the texts of packages' ids.
-use Rattle.std.proofs.Common.{◌≡◌, ◌<◌, ◌≤◌, ℕ, ◌+◌, List, [], ◌∷◌, ◌++◌, length, take, drop, get_or, true, false, Bool, refl, sym, ap, ◌∙◌, subst, arith, Ok, Err, Some, None}
-use Rattle.std.specs.Prelude.{◌==◌, ◌||◌, ◌&&◌, if◌then◌else◌, not, Result, is_some, IsTrue}
-use Rattle.std.specs.List.{list_all, list_any}
+use Rattle.std.proofs.Common.{◌≡◌, ◌<◌, ℕ, ◌+◌, List, [], ◌∷◌, ◌++◌, length, take, drop, get_or, true, false, Bool, refl, sym, ap, ◌∙◌, arith, Ok, Err, Some, None}
+use Rattle.std.specs.Prelude.{◌==◌, ◌&&◌, if◌then◌else◌, not, Result, is_some, IsTrue}
+use Rattle.std.specs.List.{list_all}
 use Rattle.std.proofs.lemmas.Bool.Decides.{nat_tests}
 use Rattle.std.proofs.lemmas.Bool.{eqb-true}
 use Rattle.std.proofs.lemmas.List.{take_more, drop_more, take-append-drop, length-take-le}
-use Rattle.std.proofs.lemmas.List.Folds.{list_any-append}
 use Rattle.semver.specs.Parse.{version_parts, Parts}
 use Rattle.semver.specs.declared.error.Error.{Error}
 use Rattle.pn_text.specs.Path.{is_part}
 use Rattle.pn_text.specs.Name.{IsName, plain, scoped, is_name, is_first, is_name_byte, is_name_part}
 use Rattle.pn_text.specs.Ids.{id_text, id_name, id_version, before_at, after_at, is_id, is_version, parts_text, ok_of, IdLaw, IsIdOf, id_of}
-use Rattle.pn_text.proofs.Paths.{and_left, and_right}
+use Rattle.pn_text.proofs.Bools.{and_left, and_right}
 use Rattle.pn_text.proofs.NameTexts.{name_of}
 use Rattle.pn_text.proofs.VersionTexts.{version_is_part}
 use Rattle.std.specs.Cmp.Derive.{both_true}

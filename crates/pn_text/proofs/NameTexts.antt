@@ -2,23 +2,16 @@
 use Rattle.std.proofs.Common.{◌≡◌, ℕ, ◌≤◌, List, [], ◌∷◌, ◌++◌, length, refl, sym, ap, ◌∙◌, subst, arith, Bool, true, false, Some, None, inl, inr}
 use Rattle.std.specs.Prelude.{◌==◌, ◌&&◌, ◌||◌, not, nat_le, IsTrue, if◌then◌else◌, ◌⊎◌}
 use Rattle.std.specs.List.{list_all, list_any}
-use Rattle.std.proofs.lemmas.Bool.{eqb-true}
 use Rattle.std.proofs.lemmas.List.{take_all}
 use Rattle.std.specs.Cmp.Derive.{both_true}
 use Rattle.pn_text.specs.declared.name_reader.State.TheVariants.{Start, Part, Scope, InScope, Slash, Second}
 use Rattle.pn_text.specs.Path.{is_filled, is_part, is_path, text_below, SpellsParts}
 use Rattle.pn_text.specs.Name.{is_first, is_name_byte, is_name_part, IsName, plain, scoped, on, then_on, runs, ends_whole, is_reserved, is_name, NameLaw, name_path}
+use Rattle.pn_text.proofs.Bytes.{other_byte}
 use Rattle.pn_text.proofs.Paths.{and_left, and_right, not_true, tail_of-spelled}
 use Rattle.pn_text.proofs.Names.{runs-append, accepted}
 
--- a byte that passes a test isn't one that fails it
-other_byte : (f : ℕ → Bool) (b k : ℕ) → f b ≡ true → f k ≡ false → (b == k) ≡ false
-other_byte f b k h n = elim (b == k) as (λ c. (b == k) ≡ c → c ≡ false) [
-  | true ↦ λ is. sym h ∙ ap f (eqb-true b k is) ∙ n
-  | false ↦ λ is. refl
-] refl
-
-first_byte : (b : ℕ) → is_first b ≡ true → is_name_byte b ≡ true
+pub first_byte : (b : ℕ) → is_first b ≡ true → is_name_byte b ≡ true
 first_byte b h = ap (λ a. a || (b == 46) || (b == 95)) h
 
 -- the reader goes on through name bytes

@@ -1,6 +1,6 @@
 -- Lemmas on relative paths.
-use Rattle.std.proofs.Common.{◌≡◌, ◌≢◌, ℕ, ◌+◌, ◌<◌, ◌≤◌, List, [], ◌∷◌, ◌++◌, length, get_or, take, drop, refl, sym, ap, ◌∙◌, subst, append_assoc, append-nil, arith, Bool, true, false, length-append}
-use Rattle.std.specs.Prelude.{◌==◌, ◌||◌, if◌then◌else◌, IsTrue, not, suc}
+use Rattle.std.proofs.Common.{◌≡◌, ◌≢◌, ℕ, ◌+◌, ◌<◌, ◌≤◌, List, [], ◌∷◌, ◌++◌, length, get_or, take, drop, refl, sym, ap, ◌∙◌, subst, append_assoc, append-nil, arith, Bool, true, false, length-append, inl, inr}
+use Rattle.std.specs.Prelude.{◌⊎◌, ◌==◌, ◌||◌, if◌then◌else◌, IsTrue, not, suc}
 use Rattle.std.specs.List.{list_any}
 use Rattle.std.specs.Str.{IsCharBoundary, bytes_eq}
 use Rattle.std.proofs.lemmas.Bool.{eqb-true}
@@ -181,7 +181,7 @@ leads from to text r good other = (
 )
 
 -- a list of parts that isn't empty has a last one
-some_last : (x : List ℕ) (p : Path) → (q : Path) × (y : List ℕ) × (x ∷ p ≡ q ++ y ∷ [])
+pub some_last : (x : List ℕ) (p : Path) → (q : Path) × (y : List ℕ) × (x ∷ p ≡ q ++ y ∷ [])
 some_last x [] = ([], x, refl)
 some_last x (z ∷ p) = let l = some_last z p in (x ∷ l.0, l.1, ap (λ q. x ∷ q) l.2)
 
@@ -230,3 +230,44 @@ relative_law from to text good r = (
   (λ other. let l = leads from to text r good other in (length r.up, r.down, l.0, l.1)),
   (λ same. dot_for_same to text (subst (λ p. IsRelative p to text) same r)),
 )
+
+-- of two ends of a path, one is an end of the other
+pub ends_nested : (a b p q : Path) → a ++ p ≡ b ++ q → ((s : Path) × (p ≡ s ++ q) × (b ≡ a ++ s)) ⊎ ((s : Path) × (q ≡ s ++ p) × (a ≡ b ++ s))
+ends_nested [] b p q e = inl (b, e, refl)
+ends_nested (x ∷ a) [] p q e = inr (x ∷ a, sym e, refl)
+ends_nested (x ∷ a) (y ∷ b) p q e =
+    let heads : x ≡ y = cc in
+    let tails : a ++ p ≡ b ++ q = cc in
+    elim (ends_nested a b p q tails) [
+      | inl h ↦ inl (h.0, h.1, ap (λ z. z ∷ b) (sym heads) ∙ ap (λ t. x ∷ t) h.2)
+      | inr h ↦ inr (h.0, h.1, ap (λ z. z ∷ a) heads ∙ ap (λ t. y ∷ t) h.2)
+    ]
+
+-- what both ways begin with is nothing
+none_first : (s u d up down : Path) → up ≡ u ++ s → down ≡ d ++ s → NoneShared up down → s ≡ []
+none_first [] u d up down e f none = refl
+none_first (x ∷ s) u d up down e f none =
+    let l = some_last x s in
+    absurd (none l.1 (u ++ l.0) (d ++ l.0) (e ∙ ap (λ q. u ++ q) l.2 ∙ sym (append_assoc u l.0 (l.1 ∷ []))) (f ∙ ap (λ q. d ++ q) l.2 ∙ sym (append_assoc d l.0 (l.1 ∷ []))))
+
+pub one_steps : (p : Path) (t u : List ℕ) → IsSteps p t → IsSteps p u → t ≡ u
+one_steps [] t u h k = h ∙ sym k
+one_steps (x ∷ p) t u h k = let same : 47 ∷ t ≡ 47 ∷ u = h ∙ sym k in cc
+
+-- a way with a base at or below the other one's has the other one's text
+nested_text : (from to : Path) (t u : List ℕ) (a : IsRelative from to t) (b : IsRelative from to u) (s : Path) → a.base ≡ s ++ b.base → b.up ≡ a.up ++ s → t ≡ u
+nested_text from to t u a b s base up =
+    let down : b.down ≡ a.down ++ s =
+    append_cancel_right b.down (a.down ++ s) b.base (sym b.to_is ∙ a.to_is ∙ ap (λ q. a.down ++ q) base ∙ sym (append_assoc a.down s b.base)) in
+    let none : s ≡ [] = none_first s a.up a.down b.up b.down up down b.nearest in
+    let same_up : b.up ≡ a.up = up ∙ ap (λ q. a.up ++ q) none ∙ append-nil a.up in
+    let same_down : b.down ≡ a.down = down ∙ ap (λ q. a.down ++ q) none ∙ append-nil a.down in
+    one_steps (a.down ++ dots (length a.up)) t u a.spelled
+    (subst (λ q. IsSteps (q ++ dots (length a.up)) u) same_down (subst (λ q. IsSteps (b.down ++ dots (length q)) u) same_up b.spelled))
+
+-- two paths have one relative path
+pub one_text : (from to : Path) (t u : List ℕ) → IsRelative from to t → IsRelative from to u → t ≡ u
+one_text from to t u a b = elim (ends_nested a.up b.up a.base b.base (sym a.from_is ∙ b.from_is)) [
+  | inl h ↦ nested_text from to t u a b h.0 h.1 h.2
+  | inr h ↦ sym (nested_text from to u t b a h.0 h.1 h.2)
+]

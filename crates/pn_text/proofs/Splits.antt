@@ -1,11 +1,12 @@
 -- Lemmas on the first part of a text of parts.
-use Rattle.std.proofs.Common.{◌≡◌, ℕ, ◌<◌, ◌≤◌, ◌-◌, length, take, drop, arith, List, [], ◌∷◌, ◌++◌, refl, sym, ap, ◌∙◌, append_assoc, Bool, true, false}
+use Rattle.std.proofs.Common.{◌≡◌, ℕ, ◌<◌, ◌≤◌, ◌-◌, length, take, drop, arith, List, [], ◌∷◌, ◌++◌, refl, sym, ap, ◌∙◌, append_assoc, true, false}
 use Rattle.std.specs.Prelude.{◌==◌, ◌||◌, IsTrue, if◌then◌else◌}
 use Rattle.std.specs.Str.{bytes_eq}
 use Rattle.std.proofs.lemmas.List.Folds.{list_any-append}
 use Rattle.std.proofs.lemmas.List.{take_all}
 use Rattle.pn_text.specs.Path.{Path, is_flat, parts_from, tail_of, IsPartsEnd}
 use Rattle.pn_text.specs.Name.{modules, holds_modules}
+use Rattle.pn_text.proofs.Bools.{or_false, or_true}
 use Rattle.pn_text.proofs.Paths.{not_true, parts_from-append, parts_from-flat}
 
 -- parts that stand already stay below those that are read
@@ -29,14 +30,6 @@ parts_behind part (b ∷ more) flat ends =
     ∙ ap (λ c. parts_from (part ∷ []) (c ∷ more)) ends
     ∙ parts_from-below more [] (part ∷ [])
     ∙ ap (λ c. parts_from [] (c ∷ more) ++ part ∷ []) (sym ends)
-
-or_false : (a : Bool) → (a || false) ≡ a
-or_false true = refl
-or_false false = refl
-
-or_true : (a : Bool) → (a || true) ≡ true
-or_true true = refl
-or_true false = refl
 
 holds_behind : (part after : List ℕ) → IsTrue (is_flat part) → IsPartsEnd after → holds_modules (tail_of (part ++ after)) ≡ (holds_modules (parts_from [] after) || (bytes_eq part modules || false))
 holds_behind part after flat ends = ap holds_modules (parts_behind part after flat ends) ∙ list_any-append (λ x. bytes_eq x modules) (parts_from [] after) (part ∷ [])

@@ -1,27 +1,23 @@
 -- A SemVer version is one part of a path.
-use Rattle.std.proofs.Common.{◌≡◌, ◌<◌, ◌^◌, ℕ, suc, ◌+◌, ◌%◌, List, [], ◌∷◌, ◌++◌, length, true, false, IsTrue, refl, ap, ◌∙◌, subst, arith, Ok, Err}
-use Rattle.std.specs.Prelude.{◌==◌, Result}
+use Rattle.std.proofs.Common.{◌≡◌, ◌<◌, ◌^◌, ℕ, ◌+◌, ◌%◌, List, [], ◌∷◌, ◌++◌, true, false, IsTrue, refl, ap, ◌∙◌, subst, arith, Ok}
+use Rattle.std.specs.Prelude.{◌==◌}
 use Rattle.std.specs.List.{list_all, list_any}
 use Rattle.std.specs.Fmt.{decimal}
 use Rattle.std.proofs.lemmas.Fmt.{decimal_by_steps}
 use Rattle.std.proofs.lemmas.Bool.Decides.{nat_tests}
-use Rattle.std.proofs.lemmas.List.Folds.{list_any-append}
 use Rattle.semver.specs.Grammar.{is_identifier_byte, is_build_identifier, is_pre_identifier, is_pre_release, is_build, IsValid}
 use Rattle.semver.specs.Identifiers.{marked}
 use Rattle.semver.specs.Order.{parts}
 use Rattle.semver.specs.OrderLaws.{join-parts, join_dots}
 use Rattle.semver.specs.Parse.{version_parts, Parts}
-use Rattle.semver.specs.declared.error.Error.{Error}
 use Rattle.semver.proofs.Grammar.{version_parts-sound}
 use Rattle.semver.specs.Identifiers.{parts_text}
 use Rattle.pn_text.specs.Path.{is_filled, is_part}
-use Rattle.pn_text.proofs.Paths.{and_left, and_right}
+use Rattle.pn_text.proofs.Bools.{and_left, and_right}
+use Rattle.pn_text.proofs.Bytes.{both_flat}
 
 digit_flat : (k : ℕ) → k < 10 → (48 + k == 47) ≡ false
 digit_flat k h = grind (arith, nat_tests)
-
-both_flat : (xs ys : List ℕ) → list_any (λ b. b == 47) xs ≡ false → list_any (λ b. b == 47) ys ≡ false → list_any (λ b. b == 47) (xs ++ ys) ≡ false
-both_flat xs ys a b = list_any-append (λ b. b == 47) xs ys ∙ cc
 
 one_flat : (b : ℕ) → (b == 47) ≡ false → list_any (λ b. b == 47) (b ∷ []) ≡ false
 one_flat b h = rw h refl

@@ -1,5 +1,6 @@
 -- Counts of faults, and what an answer for a fault rests on.
-use Rattle.std.specs.Prelude.{ℕ, ◌+◌, ◌-◌, ◌^◌, ◌≤◌, min, Result, IsErrOf}
+use Rattle.std.specs.Prelude.{ℕ, ◌+◌, ◌-◌, ◌^◌, ◌≤◌, ◌==◌, min, Bool, List, Result, IsErrOf}
+use Rattle.std.specs.List.{list_any}
 use Rattle.pn_text.specs.declared.fault.DevFault.{DevFault}
 use Rattle.pn_text.specs.declared.fault.DevFault.TheVariants.{Failed}
 
@@ -11,3 +12,11 @@ Rose before now = min (before + 1) (2 ^ 64 - 1) ≤ now
 pub record HasCause {T : Type 0} (before now : ℕ) (result : Result T DevFault) : Type 0 where
   pub later : before ≤ now
   pub failed : IsErrOf result Failed → Rose before now
+
+-- whether the number is one of those
+abbrev pub is_listed : List ℕ → ℕ → Bool
+is_listed numbers n = list_any (λ m. m == n) numbers
+
+-- a count with one more, which stands still at its type's end
+abbrev pub count_after : ℕ → ℕ
+count_after n = min (n + 1) (2 ^ 64 - 1)

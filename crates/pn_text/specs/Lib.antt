@@ -5,3 +5,5 @@ pub mod NameFaults
 pub mod Causes
 pub mod Relative
 pub mod Ids
+pub mod First
+pub mod Pieces

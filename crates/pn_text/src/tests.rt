@@ -161,3 +161,40 @@ fn relative_paths_go_up_and_down(rt: HostRuntime) -> Result<(), Fail> {
     }
     Ok(())
 }
+
+// Whether a text is read as the id of that name and version, and made of them.
+fn is_id(alloc: Global, text: &str, name: &str, version: &str) -> Result<bool, Fail> {
+    let name = PkgName::read(alloc, name)?;
+    let made = PkgId::of(alloc, &name, version)?;
+    match PkgId::read(alloc, text)? {
+        Some(id) => Ok(
+            id.name() == &name && id.version_text() == version && made == Some(id.copy(alloc)?),
+        ),
+        None => Ok(false),
+    }
+}
+
+#[test]
+fn ids_have_a_name_and_a_version(rt: HostRuntime) -> Result<(), Fail> {
+    let alloc = rt.alloc();
+    for (text, name, version) in [
+        ("a@1.0.0", "a", "1.0.0"),
+        ("@s/a@1.2.3-x.1", "@s/a", "1.2.3-x.1"),
+        ("a@0.0.1+b.7", "a", "0.0.1+b.7"),
+    ] {
+        assert!(rt; is_id(alloc, text, name, version)?, "{text}");
+    }
+    for text in [
+        "",
+        "a",
+        "a@",
+        "@1.0.0",
+        "@s/a",
+        "a@1.0",
+        "a@1.0.0@2.0.0",
+        "@s/a/b@1.0.0",
+    ] {
+        assert!(rt; PkgId::read(alloc, text)?.is_none(), "{text}");
+    }
+    Ok(())
+}

@@ -2,7 +2,7 @@ pub mod Wants
 pub mod Walks
 pub mod Graphs
 pub mod WalkLaws
-pub mod Keeping
+pub mod Keeps
 pub mod Starts
-pub mod Turns
+pub mod Calls
 pub mod Places

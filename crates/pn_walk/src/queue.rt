@@ -1,12 +1,12 @@
 // The walk along edges.
 ghost use Rattle.std.specs.Prelude.{◌≡◌, ◌<◌, ◌≤◌, ◌∷◌, ◌++◌, [], ◌^◌, OnOk, IfOk, IfErr, Some, None, length, map, get_or, vec_len};
 ghost use Rattle.pn_text.specs.declared.limits.TheConstants.{PACKAGE_LIMIT};
-ghost use Rattle.pn_walk.specs.Keeping.{Keeps};
+ghost use Rattle.pn_walk.specs.Keeps.{Keeps};
 ghost use Rattle.pn_walk.specs.Places.{IsTied, KeepsPlace};
 ghost use Rattle.pn_walk.specs.Wants.{Node as TheNode, to_package, at_package};
 ghost use Rattle.pn_walk.specs.Walks.{turn_by, State, Walk, IsWalked, place_of, turns_of};
 ghost use Rattle.pn_walk.specs.declared.fault.WalkFault.TheVariants.{Memory as no_memory};
-ghost use Rattle.pn_walk.specs.Turns.{at, link_of, OnWays, Stops, Met, Took, TookAll, StopsIn, IsTooMany, EdgeRefused};
+ghost use Rattle.pn_walk.specs.Calls.{at, link_of, OnWays, Stops, Met, Took, TookAll, StopsIn, IsTooMany, EdgeRefused};
 
 use crate::fault::WalkFault;
 use crate::node::{Node, Wishes};

@@ -1,9 +1,9 @@
 // The walk from what projects ask for.
 ghost use Rattle.std.specs.Prelude.{◌≡◌, ◌≤◌, ◌<◌, [], ◌^◌, Option, OnOk, IfOk, IfErr, length, map};
-ghost use Rattle.pn_walk.specs.Keeping.{Keeps};
+ghost use Rattle.pn_walk.specs.Keeps.{Keeps};
 ghost use Rattle.pn_walk.specs.Places.{IsTied};
 ghost use Rattle.pn_walk.specs.Walks.{start, IsWalked};
-ghost use Rattle.pn_walk.specs.Turns.{at, Stops, OnWays, TookAll, StopsIn};
+ghost use Rattle.pn_walk.specs.Calls.{at, Stops, OnWays, TookAll, StopsIn};
 ghost use Rattle.pn_walk.specs.Starts.{turns_from};
 
 use crate::fault::WalkFault;

@@ -1,6 +1,6 @@
 // What wishes lead to, and what packages ask for.
 ghost use Rattle.std.specs.Prelude.{◌≡◌, Option, IfOk, IfErr};
-ghost use Rattle.pn_walk.specs.Keeping.{Keeps};
+ghost use Rattle.pn_walk.specs.Keeps.{Keeps};
 ghost use Rattle.pn_walk.specs.Wants.{Wish as TheWish, Id as TheId, Aim as TheAim, Node as TheNode};
 
 use crate::node::Node;

@@ -13,9 +13,7 @@ ghost use Rattle.pn_writer.specs.Copies.{IsCopy};
 
 use crate::fault::WriteFault;
 use pn_fs::{Fs, ReadFs};
-use pn_text::{AbsPath, DevFault};
-
-const LIMIT: u64 = 268_435_456;
+use pn_text::{AbsPath, DevFault, FILE_LIMIT};
 
 /// Makes a file with these bytes where nothing stands.
 pub fn write_file<P: Fs>(fs: &mut P, path: &AbsPath, bytes: &[u8]) -> Result<(), WriteFault>
@@ -55,8 +53,8 @@ pub fn copy_file<P: Fs, R: ReadFs>(
             return Ok(());
         }
         let next = at + count as u64;
-        if next > LIMIT {
-            return Err(WriteFault::TooLarge(LIMIT + 1));
+        if next > FILE_LIMIT {
+            return Err(WriteFault::TooLarge(FILE_LIMIT + 1));
         }
         append_front(fs, to, buffer, count)?;
         at = next;

@@ -1,5 +1,5 @@
 -- Escapes in double quotes, each in one step.
-use Rattle.std.proofs.Common.{◌≡◌, ℕ, ◌+◌, ◌-◌, ◌*◌, ◌≤◌, arith, List, [], ◌∷◌, ◌++◌, true, false, Option, Some, None, Result, Ok, Err, refl, sym, ap, subst, ◌∙◌}
+use Rattle.std.proofs.Common.{◌≡◌, ℕ, ◌+◌, ◌-◌, ◌*◌, ◌≤◌, arith, Bool, List, [], ◌∷◌, ◌++◌, true, false, Option, Some, None, Result, Ok, Err, refl, sym, ap, subst, ◌∙◌}
 use Rattle.std.specs.Prelude.{◌==◌, ◌||◌, if◌then◌else◌, encode_utf8}
 use Rattle.std.proofs.lemmas.Bool.{eqb-true, ltb-false, ne_eqb}
 use Rattle.pn_yaml.specs.Cuts.{begins_ascii}
@@ -10,7 +10,6 @@ use Rattle.pn_yaml.specs.Outcome.{◌>>=◌, wrong}
 use Rattle.pn_yaml.specs.Escapes.{character, code_at, digit_at, escape_at, two_at}
 use Rattle.pn_yaml.specs.Reading.{EndsAt}
 use Rattle.pn_yaml.specs.Scalars.{double, slash, digits, Turn, go, bad, on_some, turned, with_bytes, quoted_at, digit_of, digit_turn, digits_behind, escape_of, is_surrogate}
-use Rattle.pn_yaml.proofs.Tests.{either}
 use Rattle.pn_yaml.proofs.Quotes.{Read, double_slash, with_more, with_none}
 
 -- the scalar goes on behind a character
@@ -103,6 +102,11 @@ code_read line b rest =
 abbrev IsOne : Option ℕ → Type 0
 IsOne None = Unit {0}
 IsOne (Some c) = encode_utf8 c ≡ c ∷ []
+
+-- where one of two tests holds
+either : (a b : Bool) (P : Type 0) → (a ≡ true → P) → (b ≡ true → P) → (a || b) ≡ true → P
+either true b P f g e = f refl
+either false b P f g e = g e
 
 one_of : (a b : ℕ) → encode_utf8 a ≡ a ∷ [] → (b == a) ≡ true → encode_utf8 b ≡ b ∷ []
 one_of a b one e = subst (λ (c : ℕ). encode_utf8 c ≡ c ∷ []) (sym (eqb-true b a e)) one

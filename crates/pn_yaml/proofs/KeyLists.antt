@@ -9,11 +9,12 @@ use Rattle.std.specs.declared.cmp.Ordering.TheVariants as order
 use Rattle.std.proofs.lemmas.Cmp.{nat_list_cmp_total}
 use Rattle.std.proofs.lemmas.Map.Text.{is_eq-slice_cmp}
 use Rattle.std.proofs.lemmas.List.{take_more}
+use Rattle.std.proofs.lemmas.Bool.{and_parts}
+use Rattle.pn_text.proofs.Bools.{or_cond}
 use Rattle.pn_yaml.specs.declared.keys.Keys.{Keys}
 use Rattle.pn_yaml.specs.declared.node.Node.{Node}
 use Rattle.pn_yaml.specs.Data.{is_among}
 use Rattle.pn_yaml.specs.KeySets.{AreKeys, HasKeys, all_rise, rises, seen_of, seen_onto}
-use Rattle.pn_yaml.proofs.Tests.{both}
 
 abbrev Members : Type 0
 Members = List (List ℕ × Node)
@@ -58,13 +59,8 @@ rises_on (m ∷ ms) l k e f = below_trans m l k e f
 pub rises_new : (seen : List (List ℕ)) (k : List ℕ) → all_rise seen ≡ true → rises seen k ≡ true → is_among k seen ≡ false
 rises_new [] k e f = refl
 rises_new (l ∷ ls) k e f =
-    let b = both (rises ls l) (all_rise ls) e in
     let other : bytes_eq l k ≡ false = sym (is_eq-slice_cmp l k) ∙ not_equal (slice_cmp nat_cmp l k) f in
-    ap (λ (v : Bool). v || is_among k ls) other ∙ rises_new ls k b.1 (rises_on ls l k b.0 f)
-
-or_cond : (a b : Bool) → cond a true b ≡ (a || b)
-or_cond true b = refl
-or_cond false b = refl
+    ap (λ (v : Bool). v || is_among k ls) other ∙ rises_new ls k (and_parts (rises ls l) (all_rise ls) e).1 (rises_on ls l k (and_parts (rises ls l) (all_rise ls) e).0 f)
 
 -- a key more in the set
 pub has_more : (old new : BTreeSet (List ℕ)) (key : List ℕ) (seen : List (List ℕ)) → HasKeys old seen

@@ -2,7 +2,7 @@
 use Rattle.std.proofs.Common.{◌≡◌, ◌≢◌, ℕ, List, [], ◌∷◌, ◌++◌, Bool, true, false, Result, Ok, Err, refl, sym, ap, ◌∙◌, append_assoc}
 use Rattle.std.specs.Prelude.{◌==◌, ◌||◌, if◌then◌else◌}
 use Rattle.std.specs.List.{list_any}
-use Rattle.std.proofs.lemmas.Bool.{ne_eqb}
+use Rattle.std.proofs.lemmas.Bool.{ne_eqb, or_parts}
 use Rattle.std.proofs.lemmas.List.{append-nil, append_cancel_right}
 use Rattle.pn_yaml.specs.declared.fault.Why.TheVariants as why
 use Rattle.pn_yaml.specs.declared.fault.YamlFault.{YamlFault}
@@ -10,7 +10,6 @@ use Rattle.pn_yaml.specs.Bytes.{starts, is_empty}
 use Rattle.pn_yaml.specs.Outcome.{wrong}
 use Rattle.pn_yaml.specs.Reading.{EndsAt}
 use Rattle.pn_yaml.specs.Scalars.{Word, Inside, single, quote, double, slash, digits, Turn, go, closed, behind, bad, turn_of, turned, with_bytes, closed_at, quoted_at, quoted_end}
-use Rattle.pn_yaml.proofs.Tests.{neither}
 
 -- what reading gives, so far as it is known
 abbrev pub Read : Type 0
@@ -44,17 +43,17 @@ Stays s p = (b : ℕ) → p b ≡ false → turn_of s b ≡ go (b ∷ []) s
 through : (line : ℕ) (s : Inside) (p : ℕ → Bool) → Stays s p → (front rest : List ℕ) → list_any p front ≡ false → quoted_at line s (front ++ rest) ≡ with_bytes front (quoted_at line s rest)
 through line s p stays [] rest free = sym (with_none line s rest)
 through line s p stays (b ∷ front) rest free =
-    let f = neither (p b) (list_any p front) free in
+    let f = or_parts (p b) (list_any p front) free in
     ap (λ (t : Turn). turned line t (λ i. quoted_at line i (front ++ rest)) b (front ++ rest)) (stays b f.0)
     ∙ ap (λ (r : Read). with_bytes (b ∷ []) r) (through line s p stays front rest f.1)
     ∙ with_more (b ∷ []) front (quoted_at line s rest)
 
 single_stays : Stays single (λ c. c == 39 || c == 39)
-single_stays b e = ap (λ (c : Bool). if c then go [] quote else go (b ∷ []) single) (neither (b == 39) (b == 39) e).0
+single_stays b e = ap (λ (c : Bool). if c then go [] quote else go (b ∷ []) single) (or_parts (b == 39) (b == 39) e).0
 
 double_stays : Stays double (λ c. c == 34 || c == 92)
 double_stays b e =
-    let n = neither (b == 34) (b == 92) e in
+    let n = or_parts (b == 34) (b == 92) e in
     ap (λ (c : Bool). if c then closed else if b == 92 then go [] slash else go (b ∷ []) double) n.0
     ∙ ap (λ (c : Bool). if c then go [] slash else go (b ∷ []) double) n.1
 
@@ -110,11 +109,11 @@ double_slash line text front rest after e f =
     ∙ ap (λ (r : List ℕ). with_bytes front (quoted_at line double r)) f
     ∙ ap (λ (r : Read). with_bytes front r) (with_none line slash after)
 
--- a byte more that is neither of two
+-- a byte more that is or_parts of two
 pub free_more : (a b : ℕ) (front : List ℕ) (c : ℕ) → list_any (λ c. c == a || c == b) front ≡ false → c ≢ a → c ≢ b → list_any (λ c. c == a || c == b) (front ++ c ∷ []) ≡ false
 free_more a b [] c e f g = rw (ne_eqb c a f, ne_eqb c b g) refl
 free_more a b (x ∷ front) c e f g =
-    let n = neither (x == a || x == b) (list_any (λ c. c == a || c == b) front) e in
+    let n = or_parts (x == a || x == b) (list_any (λ c. c == a || c == b) front) e in
     rw n.0 (free_more a b front c n.1 f g)
 
 -- the same front before the same bytes

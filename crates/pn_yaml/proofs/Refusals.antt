@@ -18,7 +18,7 @@ use Rattle.pn_yaml.proofs.FaultLines.{Blames, OnErr}
 use Rattle.pn_yaml.proofs.RowLines.{OnLines, Stays}
 use Rattle.pn_yaml.proofs.Fates.{Fate, fails, ends, goes_on, Reads}
 use Rattle.pn_yaml.proofs.BlockFates.{root_read, text-fate, text-stays}
-use Rattle.pn_yaml.proofs.Fronts.{rows-later, rows-lines, rows-split, rows_behind, whole-count}
+use Rattle.pn_yaml.proofs.WholeLineLemmas.{rows-later, rows-lines, rows-split, rows_behind, whole-count}
 
 abbrev Said : Type 0
 Said = Result Data YamlFault

@@ -1,19 +1,14 @@
 pub mod Data
 pub mod View
 pub mod Outcome
-pub mod Texts
+pub mod WhyTexts
 pub mod Bytes
 pub mod Scalars
 pub mod Flow
 pub mod Rows
 pub mod Blocks
-pub mod Words
-pub mod Printing
 pub mod Laws
 pub mod Samples
-pub mod PrintedSamples
-pub mod PlainRun
-pub mod Levels
 pub mod Cursor
 pub mod Cuts
 pub mod Reading
@@ -22,5 +17,4 @@ pub mod KeySets
 pub mod FlowSteps
 pub mod Literals
 pub mod BlockSteps
-pub mod StableLaw
 pub mod PlaceLaw

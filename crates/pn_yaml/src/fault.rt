@@ -1,13 +1,15 @@
 // The refusals.
 ghost use Rattle.std.specs.Prelude.{◌≡◌};
 ghost use Rattle.pn_yaml.specs.declared.fault.YamlFault.TheVariants.{Memory as no_memory};
-ghost use Rattle.pn_yaml.specs.Texts.{why_text};
+ghost use Rattle.pn_yaml.specs.WhyTexts.{why_text};
 
 use pn_text::Memory;
 use std::alloc::{AllocError, AllocFailed};
+use thiserror::Error;
 
 /// What is wrong with a line.
-#[derive(Clone, Copy, Debug, PartialEq, Eq)]
+#[derive(Clone, Copy, Debug, Error, PartialEq, Eq)]
+#[error("{}", self.text())]
 pub enum Why {
     /// A tab stands in the indentation.
     Tab,
@@ -46,14 +48,18 @@ impl Why {
 }
 
 /// Why bytes are no text of the subset.
-#[derive(Clone, Copy, Debug, PartialEq, Eq)]
+#[derive(Clone, Copy, Debug, Error, PartialEq, Eq)]
 pub enum YamlFault {
     /// The bytes are no UTF-8.
+    #[error("not UTF-8")]
     NotUtf8,
     /// The first line at fault, counted from 1.
+    #[error("line {0}: {1}")]
     Line(u32, Why),
     /// Scalars, lists and maps are nested more than 64 deep.
+    #[error("more than 64 levels")]
     TooDeep,
+    #[error("out of memory")]
     Memory,
 }
 

@@ -1,7 +1,13 @@
-//! A form after YAML 1.2, read and printed: block maps and lists, flow values on one line, quoted and plain scalars.
+//! A form after YAML 1.2, read: block maps and lists, flow values on one line, quoted and plain scalars.
 //!
-//! What bytes say is a definition, `says`: data, or the first line at fault. `read` answers exactly that. `print` writes
-//! one text of a map, and what it writes is read as the same map, each scalar plain where it was printed plain.
+//! What bytes say is a definition, `says`: data, or the first line at fault. `read` answers exactly that. Contracts see a
+//! node as its data, by `view`. `pn_yaml_print` prints it.
+//!
+//!     if let Node::Map(members) = read(alloc, bytes)? {
+//!         for (key, value) in members.as_slice() { .. }
+//!     }
+//!
+//! Bytes are parted into lines first; each reader takes the lines that are left and gives a value and the rest.
 #![tactic(auto)]
 
 mod block;
@@ -10,13 +16,10 @@ mod fault;
 mod flow;
 mod keys;
 mod laws;
-mod level;
 mod line;
 mod literal;
 mod node;
 mod plain;
-mod print_block;
-mod print_flow;
 mod quoted;
 mod reading;
 mod rows;
@@ -24,15 +27,11 @@ mod scalar;
 mod spaces;
 mod split;
 mod value;
-mod word;
 
 pub use fault::{Why, YamlFault};
-pub use laws::{place_law, print_law, read_law, stable_law};
+pub use laws::{place_law, read_law};
 pub use node::{Node, Scalar};
-pub use print_block::print;
 pub use reading::read;
 
 #[cfg(test)]
-mod print_tests;
-#[cfg(test)]
-mod read_tests;
+mod tests;

@@ -45,7 +45,7 @@ fn start(rt: HostRuntime) -> Status {
 
 // The folders that are `/` of the project's and the registry's file system.
 fn folders(rt: &HostRuntime, place: &AbsPath) -> Result<(AbsPath, AbsPath), Status> {
-    let Ok(root) = AbsPath::read(rt.alloc(), "/") else {
+    let Ok(root) = AbsPath::root(rt.alloc()) else {
         return Err(Status::Memory);
     };
     let folder = registry_folder(rt, place)?;

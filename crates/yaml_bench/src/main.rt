@@ -7,7 +7,8 @@ ghost use Rattle.std.specs.Prelude.{◌≡◌, ◌≤◌, true};
 ghost use Rattle.pn_yaml.specs.Data.{are_apart, depth};
 ghost use Rattle.pn_yaml.specs.View.{view};
 
-use pn_yaml::{Node, print, read};
+use pn_yaml::{Node, read};
+use pn_yaml_print::print;
 use std::alloc::{AllocError, Global};
 use std::process::ExitCode;
 use std::time::{Duration, Instant};

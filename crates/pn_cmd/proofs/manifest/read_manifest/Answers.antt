@@ -1,7 +1,8 @@
 use Rattle.std.proofs.Common.{subst}
-use Rattle.pn_cmd.specs.Refuses.{ReadsProject}
+use Rattle.pn_cmd.specs.World.{world}
+use Rattle.pn_cmd.specs.Points.{Refuses}
 use Rattle.pn_cmd.specs.Manifests.{NoManifest}
-use Rattle.pn_cmd.proofs.FoundManifests.{found_ok, refused_err}
+use Rattle.pn_cmd.proofs.ManifestLemmas.{found_ok, refused_err}
 use Rattle.pn_cmd.proofs.manifest.read_manifest.Goals as goal
 
 pub returns-clause-found : goal.returns-clause-found
@@ -9,10 +10,11 @@ returns-clause-found g c =
     found_ok c.parse.result (g.P.ReadFs.seen c.args.project.now).tree c.in-Ok.path _ c.in-Ok-read_text.bytes.items _ c.in-Ok.ensures.fits c.in-Ok-read_text.ensures.found c.as_slice.ensures.value c.in-Ok.ensures.ok c.parse.ensures.found
 
 pub returns-clause-refused : goal.returns-clause-refused
-returns-clause-refused g c =
-    refused_err c.parse.result (g.P.ReadFs.seen c.args.project.now).tree (g.P.ReadFs.seen c.args.project.now) (g.P.ReadFs.seen c.read_text.new.project) c.in-Ok.path _ c.in-Ok-read_text.bytes.items _ c.in-Ok-read_text.ensures.found c.as_slice.ensures.value c.in-Ok.ensures.ok c.parse.ensures.refused
+returns-clause-refused g c registry out =
+    let seen = g.P.ReadFs.seen in
+    refused_err c.parse.result (world (seen c.args.project.now) registry out) (world (seen c.read_text.new.project) registry out) c.in-Ok.path _ c.in-Ok-read_text.bytes.items _ c.in-Ok.ensures.fits c.in-Ok-read_text.ensures.found c.as_slice.ensures.value c.in-Ok.ensures.ok c.parse.ensures.refused
 
 pub returns-in-Err-clause-refused : goal.returns-in-Err-clause-refused
-returns-in-Err-clause-refused g c =
+returns-in-Err-clause-refused g c registry out =
     let seen = g.P.ReadFs.seen in
-    subst (λ p. ReadsProject (NoManifest p (seen c.args.project.now).tree) (seen c.args.project.now) (seen c.read_text.new.project) c.in-Err.status) c.in-Ok.ensures.ok c.in-Err.ensures.refused
+    subst (λ p. Refuses (NoManifest p) (world (seen c.args.project.now) registry out) (world (seen c.read_text.new.project) registry out) c.in-Err.status) c.in-Ok.ensures.ok (c.in-Err.ensures.refused registry out)

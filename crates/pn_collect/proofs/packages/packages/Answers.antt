@@ -1,16 +1,17 @@
 use Rattle.std.proofs.lemmas.Result.{err_from_is_err_and}
 use Rattle.std.specs.List.{All}
-use Rattle.pn_choice.proofs.Steps.{keeps_on}
+use Rattle.pn_fs.proofs.SeenLemmas.{keeps_on}
 use Rattle.pn_collect.specs.Outline.{outline, wanted, IsMade, HasFiles}
 use Rattle.pn_collect.specs.CollectFaults.{NoFiles, HasPassed, IsFirstRefused}
-use Rattle.pn_collect.proofs.Causes.{folder_at, short_at, refuses_from, refuses_by, if_both}
+use Rattle.pn_collect.proofs.Causes.{folder_at, exact_at, short_at, refuses_from, refuses_by, if_both}
 use Rattle.pn_collect.proofs.Firsts.{first_at, passes}
-use Rattle.pn_collect.proofs.Steps.{image_more, all_more, taken_more}
+use Rattle.pn_collect.proofs.MoreLemmas.{image_more, all_more, taken_more}
 use Rattle.pn_collect.proofs.packages.packages.Goals as goal
 
 pub package-requires : goal.package-requires
 package-requires g c = record {
   stands = folder_at (g.R.ReadFs.seen c.args.registry.now).tree (g.R.ReadFs.seen c.loop-one.registry).tree c.args.found.now c.loop-one.one-index c.one-item.result c.requires.stand c.loop-one-test.true c.one-item.is c.loop-one.invariant.kept.tree;
+  exact = exact_at (g.R.ReadFs.seen c.args.registry.now).tree c.args.found.now c.loop-one.one-index c.one-item.result c.requires.stand c.loop-one-test.true c.one-item.is;
   short = short_at (g.R.ReadFs.seen c.args.registry.now).tree c.args.found.now c.loop-one.one-index c.one-item.result c.requires.stand c.loop-one-test.true c.one-item.is;
 }
 

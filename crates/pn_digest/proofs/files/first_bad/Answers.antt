@@ -1,7 +1,7 @@
 use Rattle.std.proofs.Common.{◌<◌, ◌∙◌, ap, sym, arith, length, inl, inr}
 use Rattle.std.specs.BTreeSet.{contains_text}
 use Rattle.pn_digest.specs.Listing.{has_feed}
-use Rattle.pn_digest.proofs.Bad.{none_bad_more, first_bad, bad_nowhere, entries_all}
+use Rattle.pn_digest.proofs.IsBadAtLemmas.{none_bad_more, first_bad, bad_nowhere, entries_all}
 use Rattle.pn_digest.proofs.files.first_bad.Goals as goal
 use Rattle.pn_digest.proofs.files.first_bad.Goals.{then-has_feed-via-then-has_feed, then-has_feed-via-else-has_feed+then-contains}
 

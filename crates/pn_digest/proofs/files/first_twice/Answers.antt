@@ -4,8 +4,9 @@ use Rattle.std.specs.Str.{bytes_eq}
 use Rattle.std.specs.BTreeSet.{contains_text}
 use Rattle.std.proofs.lemmas.Map.Text.{btree_set_updates_text}
 use Rattle.pn_digest.specs.Listing.{rel_text}
-use Rattle.pn_digest.proofs.Twice.{none_twice_more, first_twice, twice_nowhere, not_false, not_true}
+use Rattle.pn_digest.proofs.IsTwiceAtLemmas.{none_twice_more, first_twice, twice_nowhere}
 use Rattle.pn_digest.proofs.files.first_twice.Goals as goal
+use Rattle.pn_text.proofs.Bools.{not_false, not_true}
 
 pub returns-then-not-is_new : goal.returns-then-not-is_new
 returns-then-not-is_new c =

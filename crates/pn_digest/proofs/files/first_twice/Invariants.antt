@@ -1,5 +1,5 @@
 use Rattle.std.specs.BTreeSet.{contains_text}
-use Rattle.pn_digest.proofs.Twice.{NoneTwice}
+use Rattle.pn_digest.proofs.IsTwiceAtLemmas.{NoneTwice}
 use Rattle.pn_digest.proofs.files.first_twice.Given as goal
 
 abbrev pub invariant-loop-i : goal.invariant-loop-i

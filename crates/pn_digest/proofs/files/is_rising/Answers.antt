@@ -3,8 +3,8 @@ use Rattle.std.specs.Ordering.{is_lt, nat_cmp}
 use Rattle.std.specs.Cmp.Lexicographic.{slice_cmp}
 use Rattle.std.proofs.lemmas.List.Sorted.{answers_always}
 use Rattle.pn_digest.specs.Listing.{rel_text}
-use Rattle.pn_digest.proofs.Chains.{is_rising_answer}
-use Rattle.pn_digest.proofs.Rising.{entry_text}
+use Rattle.pn_digest.proofs.RisingTextLemmas.{is_rising_answer}
+use Rattle.pn_digest.proofs.IsRisingLemmas.{entry_text}
 use Rattle.pn_digest.proofs.files.is_rising.Goals as goal
 
 pub returns : goal.returns

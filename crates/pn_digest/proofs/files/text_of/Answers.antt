@@ -1,4 +1,4 @@
-use Rattle.pn_digest.proofs.RelPaths.{is_rel}
+use Rattle.pn_digest.proofs.IsRelPathLemmas.{is_rel}
 use Rattle.pn_digest.proofs.files.text_of.Goals as goal
 
 pub returns-clause-path : goal.returns-clause-path

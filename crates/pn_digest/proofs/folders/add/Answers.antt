@@ -3,8 +3,8 @@ use Rattle.std.specs.Prelude.{string_bytes, ◌||◌}
 use Rattle.std.specs.BTreeSet.{contains_text}
 use Rattle.std.specs.Str.{bytes_eq}
 use Rattle.std.proofs.lemmas.Map.Text.{btree_set_updates_text}
-use Rattle.pn_digest.proofs.Fronts.{or_cond}
 use Rattle.pn_digest.proofs.folders.add.Goals as goal
+use Rattle.pn_text.proofs.Bools.{or_cond}
 
 pub returns-in_ok-insert : goal.returns-in_ok-insert
 returns-in_ok-insert c = λ t.

@@ -1,6 +1,6 @@
 use Rattle.std.proofs.Common.{◌≡◌, arith, length, subst}
 use Rattle.std.specs.BTreeSet.{contains_text}
-use Rattle.pn_digest.proofs.Fronts.{AddsFronts, adds_all}
+use Rattle.pn_digest.proofs.IsFolderTextLemmas.{AddsFronts, adds_all}
 use Rattle.pn_digest.proofs.folders.add_folders.Goals as goal
 
 pub returns : goal.returns

@@ -1,5 +1,5 @@
 use Rattle.std.specs.BTreeSet.{contains_text}
-use Rattle.pn_digest.proofs.Fronts.{AddsFronts}
+use Rattle.pn_digest.proofs.IsFolderTextLemmas.{AddsFronts}
 use Rattle.pn_digest.proofs.folders.add_folders.Given as goal
 
 abbrev pub invariant-loop-i : goal.invariant-loop-i

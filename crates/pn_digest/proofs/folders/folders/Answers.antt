@@ -2,7 +2,7 @@ use Rattle.std.proofs.Common.{ℕ, ◌<◌, List, length, arith, subst}
 use Rattle.std.specs.Prelude.{◌⊎◌, ◌↔◌, IsTrue}
 use Rattle.std.specs.BTreeSet.{contains_text}
 use Rattle.pn_digest.specs.Folders.{IsFolderText}
-use Rattle.pn_digest.proofs.FolderSets.{has_more}
+use Rattle.pn_digest.proofs.HasFoldersLemmas.{has_more}
 use Rattle.pn_digest.proofs.folders.folders.Goals as goal
 
 pub loop-file-preserved : goal.loop-file-preserved

@@ -1,5 +1,5 @@
 use Rattle.std.proofs.Common.{arith}
-use Rattle.pn_digest.proofs.IntegrityTexts.{none_exact, length-encoded, decoded_exact, other_size, refused}
+use Rattle.pn_digest.proofs.IntegrityTextLemmas.{none_exact, length-encoded, decoded_exact, other_size, refused}
 use Rattle.pn_digest.proofs.integrity.decoded.Goals as goal
 
 pub returns-then-text-ne88 : goal.returns-then-text-ne88

@@ -1,7 +1,7 @@
 use Rattle.pn_digest.specs.Lines.{IsFileLine, IsPathText}
 use Rattle.std.proofs.lemmas.Result.{err_from_is_err_and}
-use Rattle.pn_digest.proofs.LineParts.{no_parts, no_digits, its_path}
-use Rattle.pn_digest.proofs.PathTexts.{unless_from}
+use Rattle.pn_digest.proofs.HasPartsLemmas.{no_parts, no_digits, its_path}
+use Rattle.pn_digest.proofs.IsPathTextLemmas.{unless_from}
 use Rattle.pn_digest.proofs.lines.file_of.Goals as goal
 
 pub returns-in_default-clause-refused : goal.returns-in_default-clause-refused

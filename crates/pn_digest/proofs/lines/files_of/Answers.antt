@@ -2,8 +2,8 @@ use Rattle.std.proofs.Common.{sym, ◌∙◌}
 use Rattle.std.proofs.lemmas.Result.{err_from_is_err_and}
 use Rattle.pn_text.proofs.Paths.{some_left}
 use Rattle.pn_digest.specs.Lines.{AreFileLines, BeginsWithFile}
-use Rattle.pn_digest.proofs.LineTexts.{lines_left, reading_more}
-use Rattle.pn_digest.proofs.PathTexts.{unless_from}
+use Rattle.pn_digest.proofs.ListingTextLemmas.{lines_left, reading_more}
+use Rattle.pn_digest.proofs.IsPathTextLemmas.{unless_from}
 use Rattle.pn_digest.proofs.lines.files_of.Goals as goal
 
 pub returns-in_err-rest-clause-refused : goal.returns-in_err-rest-clause-refused

@@ -1,5 +1,5 @@
 use Rattle.std.proofs.Common.{length}
-use Rattle.pn_digest.proofs.LineTexts.{IsReading}
+use Rattle.pn_digest.proofs.ListingTextLemmas.{IsReading}
 use Rattle.pn_digest.proofs.lines.files_of.Given as goal
 
 abbrev pub invariant-lines : goal.invariant-lines

@@ -1,5 +1,5 @@
-use Rattle.pn_digest.proofs.PathTexts.{not_utf8, refused_path}
-use Rattle.pn_digest.proofs.RelPaths.{is_rel}
+use Rattle.pn_digest.proofs.IsPathTextLemmas.{not_utf8, refused_path}
+use Rattle.pn_digest.proofs.IsRelPathLemmas.{is_rel}
 use Rattle.pn_digest.proofs.lines.path_of.Goals as goal
 
 pub returns-in_default-clause-refused : goal.returns-in_default-clause-refused

@@ -1,7 +1,7 @@
 use Rattle.std.proofs.lemmas.Result.{err_from_is_err_and}
 use Rattle.pn_digest.specs.Lines.{BeginsWithFile, IsFileLine}
-use Rattle.pn_digest.proofs.LineTexts.{line_of_file}
-use Rattle.pn_digest.proofs.PathTexts.{unless_from}
+use Rattle.pn_digest.proofs.ListingTextLemmas.{line_of_file}
+use Rattle.pn_digest.proofs.IsPathTextLemmas.{unless_from}
 use Rattle.pn_digest.proofs.lines.take_line.Goals as goal
 
 pub returns-in_err-file-clause-refused : goal.returns-in_err-file-clause-refused

@@ -1,7 +1,7 @@
 use Rattle.std.proofs.Common.{◌<◌, ◌++◌, ◌∷◌, [], ◌∙◌, ap, sym, arith, length, take}
 use Rattle.pn_digest.specs.Listing.{line_text, listing_text}
-use Rattle.pn_digest.proofs.Elements.{front_more}
-use Rattle.pn_digest.proofs.LineTexts.{text_push}
+use Rattle.pn_digest.proofs.PlaceLemmas.{front_more}
+use Rattle.pn_digest.proofs.ListingTextLemmas.{text_push}
 use Rattle.pn_digest.proofs.listing.print_files.Goals as goal
 
 pub loop-file-preserved : goal.loop-file-preserved

@@ -3,7 +3,7 @@ use Rattle.std.specs.Ordering.{is_lt, nat_cmp}
 use Rattle.std.specs.Cmp.Lexicographic.{slice_cmp}
 use Rattle.std.proofs.lemmas.List.Sorted.{answers_always}
 use Rattle.pn_text.specs.Path.{path_text}
-use Rattle.pn_digest.proofs.Chains.{is_rising_answer}
+use Rattle.pn_digest.proofs.RisingTextLemmas.{is_rising_answer}
 use Rattle.pn_digest.proofs.tree.is_rising.Goals as goal
 
 pub returns : goal.returns

@@ -1,7 +1,7 @@
 use Rattle.std.proofs.Common.{◌≡◌, length, true}
 use Rattle.pn_glob.specs.Gaps.{matches}
 use Rattle.pn_glob.specs.Matching.{byte_rules}
-use Rattle.pn_glob.specs.Steps.{at_gap}
+use Rattle.pn_glob.specs.WhatIsLeft.{at_gap}
 use Rattle.pn_glob.proofs.bytes.bytes_match.Given as goal
 
 abbrev pub invariant-gaps : goal.invariant-gaps

@@ -1,5 +1,5 @@
 use Rattle.std.proofs.Common.{ℕ, List, length, ap, arith, sym, ◌∙◌, subst}
-use Rattle.pn_glob.specs.ListSteps.{Added, IsBad}
+use Rattle.pn_glob.specs.ReadLists.{Added, IsBad}
 use Rattle.pn_glob.specs.Lists.{Refused}
 use Rattle.pn_glob.proofs.Braces.{items_of}
 use Rattle.pn_glob.proofs.Heads.{before-next, before-start, refused-at}

@@ -1,5 +1,5 @@
 use Rattle.std.proofs.Common.{◌≤◌, ◌+◌, length}
-use Rattle.pn_glob.specs.ListSteps.{ReadBefore}
+use Rattle.pn_glob.specs.ReadLists.{ReadBefore}
 use Rattle.pn_glob.proofs.Braces.{items_of}
 use Rattle.pn_glob.proofs.list.add_all.Given as goal
 

@@ -1,6 +1,6 @@
 use Rattle.std.proofs.Common.{◌++◌, ◌∷◌, [], ℕ, List, ap, sym, ◌∙◌, append_assoc}
 use Rattle.pn_glob.proofs.Gaps.{eq-false, eq-true}
-use Rattle.pn_glob.proofs.PartSteps.{at_slash, flat-more, parts-front}
+use Rattle.pn_glob.proofs.PartsLemmas.{at_slash, flat-more, parts-front}
 use Rattle.pn_glob.specs.Bytes.{parts}
 use Rattle.pn_glob.proofs.parts.behind_part.Goals as goal
 

@@ -1,5 +1,5 @@
 use Rattle.std.proofs.Common.{◌≡◌, ◌++◌, ℕ, List, length}
-use Rattle.pn_glob.proofs.PartSteps.{is_flat}
+use Rattle.pn_glob.proofs.PartsLemmas.{is_flat}
 use Rattle.pn_glob.proofs.parts.behind_part.Given as goal
 
 abbrev pub invariant-bytes : goal.invariant-bytes

@@ -2,7 +2,7 @@ use Rattle.std.proofs.Common.{◌≡◌, length, true}
 use Rattle.pn_glob.specs.Bytes.{parts}
 use Rattle.pn_glob.specs.Gaps.{matches}
 use Rattle.pn_glob.specs.Matching.{part_rules}
-use Rattle.pn_glob.specs.Steps.{at_gap, left_of}
+use Rattle.pn_glob.specs.WhatIsLeft.{at_gap, left_of}
 use Rattle.pn_glob.proofs.paths.paths_match.Given as goal
 
 abbrev pub invariant-gaps : goal.invariant-gaps

@@ -1,8 +1,8 @@
 use Rattle.std.proofs.Common.{ℕ, List, length, ap, arith, ◌∙◌, sym}
 use Rattle.pn_glob.specs.Matching.{part_rules}
-use Rattle.pn_glob.specs.Steps.{left_of}
+use Rattle.pn_glob.specs.WhatIsLeft.{left_of}
 use Rattle.pn_glob.proofs.Gaps.{on-gap, on-step}
-use Rattle.pn_glob.proofs.PartSteps.{part-steady}
+use Rattle.pn_glob.proofs.PartsLemmas.{part-steady}
 use Rattle.pn_glob.proofs.paths.prefix.Goals as goal
 
 pub returns-then-is_gap-clause-first : goal.returns-then-is_gap-clause-first

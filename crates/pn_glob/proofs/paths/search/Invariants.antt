@@ -3,7 +3,7 @@ use Rattle.std.specs.Prelude.{not}
 use Rattle.pn_glob.specs.Bytes.{is_hidden}
 use Rattle.pn_glob.specs.Gaps.{any_rest, matches}
 use Rattle.pn_glob.specs.Matching.{part_rules}
-use Rattle.pn_glob.specs.Steps.{left_of}
+use Rattle.pn_glob.specs.WhatIsLeft.{left_of}
 use Rattle.pn_glob.proofs.paths.search.Given as goal
 
 abbrev pub invariant-places : goal.invariant-places

@@ -4,4 +4,4 @@ use Rattle.pn_layout.specs.Store.{dir_name}
 use Rattle.pn_layout.proofs.leaves.dir_of.Goals as goal
 
 pub returns : goal.returns
-returns c = if_ok c.dir_text.result (λ t h. h ∙ (λ i. dir_name (c.as_str.ensures.text i, c.as_str-2.ensures i))) c.dir_text.ensures
+returns c = if_ok c.dir_text.result (λ t h. h ∙ (λ i. dir_name ((c.as_str.ensures.text ∙ c.name.ensures) i, c.version_text.ensures.text i))) c.dir_text.ensures

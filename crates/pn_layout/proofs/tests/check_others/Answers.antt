@@ -6,14 +6,14 @@ use Rattle.std.proofs.lemmas.Slice.Eq.{bytes_eq-Decides}
 use Rattle.pn_manifest.specs.Listed.{pair_of}
 use Rattle.pn_manifest.specs.Pairs.{Pair}
 use Rattle.pn_manifest.specs.declared.dependencies.Dependency.{Dependency}
-use Rattle.pn_layout.proofs.Contents.{only}
+use Rattle.pn_text.proofs.Members.{in_one}
 use Rattle.pn_layout.proofs.tests.check_others.Goals as goal
 
 one_other : (items : List Dependency) (one : Dependency) (all : List Pair) (name : List ℕ) → 1 ≤ length items → length items < 2 → one ≡ get_or items 0 one → map pair_of items ≡ all → one.name ≢ name
     → (d : Pair) → Contains all d → d.0 ≢ name
 one_other [] one all name some few is same other d d_in e = absurd (omega (arith, some))
 one_other (x ∷ []) one all name some few is same other d d_in e =
-    let found : pair_of x ≡ d = only (pair_of x) d (subst (λ ps. Contains ps d) (sym same) d_in) in
+    let found : pair_of x ≡ d = in_one (pair_of x) d (subst (λ ps. Contains ps d) (sym same) d_in) in
     other (ap (λ (y : Dependency). y.name) is ∙ ap (λ (p : Pair). p.0) found ∙ e)
 one_other (x ∷ y ∷ ys) one all name some few is same other d d_in e = absurd (omega (arith, few))
 

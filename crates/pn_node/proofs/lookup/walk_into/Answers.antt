@@ -3,9 +3,9 @@ use Rattle.std.specs.Prelude.{◌↔◌, IsTrue}
 use Rattle.pn_fs.specs.Tree.{folder}
 use Rattle.pn_node.specs.Steps.{steps_of}
 use Rattle.pn_node.specs.Lookups.{LeadsIn}
-use Rattle.pn_node.proofs.LegLemmas.{for_some, if_some}
 use Rattle.pn_node.proofs.Ups.{leads_from, leads_root}
 use Rattle.pn_node.proofs.lookup.walk_into.Goals as goal
+use Rattle.pn_text.proofs.Results.{for_some, if_some}
 
 pub returns-in_ok-walk_from-clause-leads : goal.returns-in_ok-walk_from-clause-leads
 returns-in_ok-walk_from-clause-leads g c =

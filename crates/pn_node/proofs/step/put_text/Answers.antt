@@ -1,6 +1,7 @@
 use Rattle.std.proofs.Common.{rules, ◌∙◌}
 use Rattle.pn_node.specs.Steps.{steps_of}
-use Rattle.pn_node.proofs.StepTexts.{put_cut, put_last, on_ok}
+use Rattle.pn_node.proofs.StepTexts.{put_cut, put_last}
+use Rattle.pn_text.proofs.Results.{on_ok}
 use Rattle.pn_node.proofs.step.put_text.Goals as goal
 
 pub parts-preserved : goal.parts-preserved
@@ -10,4 +11,4 @@ parts-preserved c = record {
 }
 
 pub returns : goal.returns
-returns c = on_ok c.put_part-2.result c.put_part-2.ensures (λ is. is ∙ put_last c.parts.front.now (steps_of c.parts.steps.items) c.in_default.ensures ∙ c.parts.invariant.left)
+returns c = on_ok c.put_part-2.result (λ is. is ∙ put_last c.parts.front.now (steps_of c.parts.steps.items) c.in_default.ensures ∙ c.parts.invariant.left) c.put_part-2.ensures

@@ -1,6 +1,6 @@
 use Rattle.std.proofs.Common.{◌∙◌, sym}
 use Rattle.pn_text.proofs.Paths.{some_left}
-use Rattle.pn_plan.proofs.Texts.{filled_spells, reads_below}
+use Rattle.pn_plan.proofs.BadPartLemmas.{filled_spells, reads_below}
 use Rattle.pn_plan.proofs.finish.path_of.Goals as goal
 
 pub returns-clause-ok : goal.returns-clause-ok

@@ -1,4 +1,4 @@
-use Rattle.pn_plan.proofs.Texts.{not_unslashed, not_bad}
+use Rattle.pn_plan.proofs.BadPartLemmas.{not_unslashed, not_bad}
 use Rattle.pn_plan.proofs.finish.read.Goals as goal
 
 pub unreachable-requires : goal.unreachable-requires

@@ -1,5 +1,6 @@
 use Rattle.std.proofs.Common.{[], ◌∙◌, refl}
-use Rattle.pn_plan.proofs.Drawn.{on_ok, on_err, any_err, draws, draws_part}
+use Rattle.pn_text.proofs.Results.{on_ok, on_err, any_err}
+use Rattle.pn_plan.proofs.Drawn.{draws, draws_part}
 use Rattle.pn_plan.proofs.marks.draw.Goals as goal
 
 pub returns-in_err-mark_folders-clause-err : goal.returns-in_err-mark_folders-clause-err

@@ -1,12 +1,11 @@
 use Rattle.std.proofs.Common.{◌∷◌, ◌∙◌, ap, sym, take}
 use Rattle.pn_text.specs.Path.{SpellsAbs}
-use Rattle.pn_text.proofs.Joins.{before_slash, from_start}
-use Rattle.pn_plan.proofs.Climbing.{begins}
+use Rattle.pn_text.proofs.Joins.{before_slash, from_start, below_begins}
 use Rattle.pn_plan.proofs.marks.parent.Goals as goal
 
 pub last_slash-at-requires : goal.last_slash-at-requires
 last_slash-at-requires c =
-    let b = begins c.requires.0 c.requires.1 in
+    let b = below_begins c.requires.0 c.requires.1 in
     (b.0, c.as_bytes.ensures.value ∙ c.requires.3 ∙ b.1)
 
 pub returns-clause-parent : goal.returns-clause-parent

@@ -1,4 +1,4 @@
-use Rattle.std.proofs.Common.{◌≡◌, ◌∙◌, ap, true}
+use Rattle.std.proofs.Common.{◌∙◌, ap}
 use Rattle.pn_plan.specs.Drawing.{is_within}
 use Rattle.pn_plan.proofs.Raising.{within_self}
 use Rattle.pn_plan.proofs.tests.leaf.Goals as goal

@@ -1,10 +1,10 @@
 use Rattle.std.proofs.Common.{ℕ, List, length, arith, ap, sym, ◌∙◌}
 use Rattle.pn_ranges.specs.Places.{fault_comparator}
 use Rattle.pn_ranges.specs.Bytes.{is_space}
-use Rattle.pn_ranges.proofs.Fronts.{behind-le, append-le}
+use Rattle.pn_ranges.proofs.FrontOfLemmas.{behind-le, append-le}
 use Rattle.pn_ranges.specs.Edges.{left_at, named_by}
 use Rattle.pn_ranges.proofs.OverProofs.{comparator-over}
-use Rattle.pn_ranges.proofs.Steps.{space_exit}
+use Rattle.pn_ranges.proofs.FirstFaultLemmas.{space_exit}
 use Rattle.pn_ranges.proofs.Comparisons.{comparator-read, plain-end, signed-lead}
 use Rattle.pn_ranges.proofs.Inside.{exit_none, no-compared}
 use Rattle.pn_ranges.specs.Unread.{NoCompared}

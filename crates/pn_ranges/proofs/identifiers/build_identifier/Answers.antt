@@ -3,8 +3,8 @@ use Rattle.semver.specs.Grammar.{is_build_identifier, is_identifier_byte}
 use Rattle.pn_ranges.specs.Bytes.{is_body, starts_with}
 use Rattle.pn_ranges.specs.Reading.{Spanned}
 use Rattle.pn_ranges.specs.Places.{build, first_fault}
-use Rattle.pn_ranges.proofs.Fronts.{behind-le, behind-stops}
-use Rattle.pn_ranges.proofs.Words.{build-read, build-goes}
+use Rattle.pn_ranges.proofs.FrontOfLemmas.{behind-le, behind-stops}
+use Rattle.pn_ranges.proofs.IdentifierLemmas.{build-read, build-goes}
 use Rattle.pn_ranges.proofs.identifiers.build_identifier.Goals as goal
 
 pub returns-clause-read : goal.returns-clause-read

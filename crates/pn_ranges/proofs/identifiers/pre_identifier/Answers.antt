@@ -1,12 +1,13 @@
 use Rattle.std.specs.Prelude.{◌==◌}
 use Rattle.std.proofs.Common.{◌≤◌, List, ℕ, sym, ap, ◌∙◌, subst, Some, length}
+use Rattle.std.proofs.lemmas.Bool.{and_parts}
 use Rattle.semver.specs.Grammar.{is_pre_identifier, is_identifier_byte}
 use Rattle.pn_ranges.specs.declared.fault.Stop.TheVariants.{Byte}
 use Rattle.pn_ranges.specs.Bytes.{behind, is_body, is_digit, starts_with}
 use Rattle.pn_ranges.specs.Reading.{Spanned}
 use Rattle.pn_ranges.specs.Places.{pre, first_fault}
-use Rattle.pn_ranges.proofs.Fronts.{behind-le, behind-stops}
-use Rattle.pn_ranges.proofs.Words.{and_left, pre-read, pre-goes, zero-read, zero-goes, zero-stops}
+use Rattle.pn_ranges.proofs.FrontOfLemmas.{behind-le, behind-stops}
+use Rattle.pn_ranges.proofs.IdentifierLemmas.{pre-read, pre-goes, zero-read, zero-goes, zero-stops}
 use Rattle.pn_ranges.proofs.Inside.{digits-inside}
 use Rattle.pn_ranges.proofs.identifiers.pre_identifier.Goals as goal
 
@@ -48,4 +49,4 @@ pub returns-then-not-starts_with_identifier-clause-inside : goal.returns-then-no
 returns-then-not-starts_with_identifier-clause-inside c =
     subst (λ (y : List ℕ). length (behind is_body c.args.text.now) ≤ length y) (sym c.behind_digits-word.ensures)
     (digits-inside c.args.text.now c.in-Some.rest.now c.in-Some.b c.in-Some.ensures
-    (and_left (c.in-Some.b == 48) (starts_with is_digit c.in-Some.rest.now) (sym c.is_zero_led.ensures ∙ c.if-is_zero_led.true)))
+    (and_parts (c.in-Some.b == 48) (starts_with is_digit c.in-Some.rest.now) (sym c.is_zero_led.ensures ∙ c.if-is_zero_led.true)).0)

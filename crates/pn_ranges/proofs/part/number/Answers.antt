@@ -1,6 +1,6 @@
 use Rattle.std.proofs.Common.{sym, ap, ◌∙◌}
 use Rattle.pn_ranges.specs.Bytes.{behind, is_digit, number_from, starts_with}
-use Rattle.pn_ranges.proofs.Fronts.{number-stops, behind-next}
+use Rattle.pn_ranges.proofs.FrontOfLemmas.{number-stops, behind-next}
 use Rattle.pn_ranges.proofs.Parts.{number-large, number-value}
 use Rattle.pn_ranges.proofs.part.number.Goals as goal
 use Rattle.pn_ranges.proofs.part.number.Goals.{in_default, in-Some+then-not-is_digit}

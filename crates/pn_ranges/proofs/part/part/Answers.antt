@@ -1,7 +1,7 @@
 use Rattle.std.proofs.Common.{◌<◌, ◌^◌, sym, subst, ◌∙◌, arith}
 use Rattle.std.proofs.lemmas.Bool.Decides.{nat_tests}
 use Rattle.pn_ranges.specs.Bytes.{is_body, is_digit}
-use Rattle.pn_ranges.proofs.Fronts.{behind-le, behind-shorter}
+use Rattle.pn_ranges.proofs.FrontOfLemmas.{behind-le, behind-shorter}
 use Rattle.pn_ranges.proofs.Parts.{zero-part, wild-part, number-part, number-goes}
 use Rattle.pn_ranges.proofs.part.part.Goals as goal
 

@@ -1,9 +1,9 @@
 use Rattle.std.proofs.Common.{ℕ, List, length, arith, ap, ◌∙◌}
 use Rattle.pn_ranges.specs.Places.{later, lead, first_fault}
 use Rattle.pn_ranges.specs.Bytes.{is_lead}
-use Rattle.pn_ranges.proofs.Fronts.{behind-le}
+use Rattle.pn_ranges.proofs.FrontOfLemmas.{behind-le}
 use Rattle.pn_ranges.proofs.OverProofs.{led-placed}
-use Rattle.pn_ranges.proofs.Steps.{exit_stops}
+use Rattle.pn_ranges.proofs.FirstFaultLemmas.{exit_stops}
 use Rattle.pn_ranges.proofs.Partials.{led-end, lead-end}
 use Rattle.pn_ranges.proofs.Inside.{exit_none, led-inside, no-end, whole-end}
 use Rattle.pn_ranges.specs.Edges.{named_by}

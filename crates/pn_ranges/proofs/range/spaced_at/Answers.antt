@@ -1,7 +1,7 @@
 use Rattle.std.proofs.Common.{ℕ, List, length, arith, ap}
 use Rattle.pn_ranges.specs.Bytes.{is_space}
 use Rattle.pn_ranges.specs.Edges.{named_by}
-use Rattle.pn_ranges.proofs.Fronts.{behind-le}
+use Rattle.pn_ranges.proofs.FrontOfLemmas.{behind-le}
 use Rattle.pn_ranges.proofs.Spaced.{spaced-read, lower-read, comparator-pre, stops-behind}
 use Rattle.pn_ranges.proofs.Closings.{gap-whole}
 use Rattle.pn_ranges.specs.Overs as o

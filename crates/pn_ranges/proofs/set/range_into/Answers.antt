@@ -1,4 +1,5 @@
-use Rattle.std.proofs.Common.{Vec, Global, map, ap, ◌∙◌}
+use Rattle.std.proofs.Common.{Vec, Global, map, ap, ◌∙◌, [], ◌∷◌}
+use Rattle.std.proofs.lemmas.List.{map-append}
 use Rattle.pn_ranges.specs.declared.bound.Bound.{Bound}
 use Rattle.pn_ranges.specs.Bytes.{behind, front_of, is_space}
 use Rattle.pn_ranges.specs.Overs.{HasOver}
@@ -6,8 +7,8 @@ use Rattle.pn_ranges.specs.Places.{first_fault, start}
 use Rattle.pn_ranges.specs.Refusals.{NoOver}
 use Rattle.pn_ranges.proofs.Spaced.{stops-behind}
 use Rattle.pn_ranges.proofs.Joins.{exit_by, stops-from}
-use Rattle.pn_ranges.proofs.Sets.{few-more, lead-split, map-push, spaced-range, start-run}
-use Rattle.pn_ranges.proofs.Fronts.{behind-same, behind-stops, front-all}
+use Rattle.pn_ranges.proofs.Sets.{few-more, lead-split, spaced-range, start-run}
+use Rattle.pn_ranges.proofs.FrontOfLemmas.{behind-same, behind-stops, front-all}
 use Rattle.pn_ranges.proofs.Unreads.{into-none, into-over}
 use Rattle.pn_ranges.proofs.set.range_into.Goals as goal
 
@@ -28,7 +29,7 @@ pub returns-clause-read : goal.returns-clause-read
 returns-clause-read c = (
   c.range_at.new.bounds.items,
   spaced-range c.args.text.now c.behind_spaces.result.now c.in_ok-count.rest.now c.in_ok-count.count c.range_at.new.bounds.items c.behind_spaces.ensures c.in_ok-count.ensures.read,
-  ap (map (λ (v : Vec Bound Global). v.items)) c.in_ok-push.ensures.items ∙ map-push (λ (v : Vec Bound Global). v.items) c.args.ranges.now.items c.range_at.new.bounds,
+  ap (map (λ (v : Vec Bound Global). v.items)) c.in_ok-push.ensures.items ∙ map-append (λ (v : Vec Bound Global). v.items) c.args.ranges.now.items (c.range_at.new.bounds ∷ []),
 )
 
 pub returns-clause-few : goal.returns-clause-few

@@ -4,7 +4,7 @@ use Rattle.std.proofs.lemmas.Bool.Decides.{nat_tests}
 use Rattle.pn_ranges.proofs.Tails.{absent-build, bare-tail, pre-tail, whole-build, whole-hyphen, pre-build}
 use Rattle.pn_ranges.specs.Bytes.{starts_with}
 use Rattle.pn_ranges.specs.Places.{whole, first_fault}
-use Rattle.pn_ranges.proofs.Steps.{exit_stops}
+use Rattle.pn_ranges.proofs.FirstFaultLemmas.{exit_stops}
 use Rattle.pn_ranges.proofs.Inside.{byte-inside, exit_inside, pres-inside}
 use Rattle.pn_ranges.proofs.tail.tail.Goals as goal
 

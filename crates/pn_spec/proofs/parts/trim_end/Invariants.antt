@@ -1,7 +1,7 @@
 use Rattle.std.proofs.Common.{◌≡◌, length}
 use denote.Text.{Utf8}
 use denote.Shadow.{shadow}
-use Rattle.pn_spec.specs.Texts.{trim_end}
+use Rattle.pn_spec.specs.SpecTexts.{trim_end}
 use Rattle.pn_spec.proofs.parts.trim_end.Given as goal
 
 abbrev pub invariant-bytes : goal.invariant-bytes

@@ -1,4 +1,4 @@
-use Rattle.pn_storecore.proofs.Worlds.{alone}
+use Rattle.pn_storecore.proofs.IsUndisturbedLemmas.{alone}
 use Rattle.pn_storecore.proofs.laws.alone_law.Goals as goal
 
 pub returns : goal.returns

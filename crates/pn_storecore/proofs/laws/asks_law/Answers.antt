@@ -1,4 +1,4 @@
-use Rattle.pn_storecore.proofs.Holding.{asks}
+use Rattle.pn_storecore.proofs.HoldsLemmas.{asks}
 use Rattle.pn_storecore.proofs.laws.asks_law.Goals as goal
 
 pub returns : goal.returns

@@ -1,4 +1,4 @@
-use Rattle.pn_storecore.proofs.Discards.{discards}
+use Rattle.pn_storecore.proofs.DiscardLemmas.{discards}
 use Rattle.pn_storecore.proofs.laws.discard_law.Goals as goal
 
 pub returns : goal.returns

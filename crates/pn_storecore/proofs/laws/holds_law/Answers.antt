@@ -1,4 +1,4 @@
-use Rattle.pn_storecore.proofs.Holding.{holds}
+use Rattle.pn_storecore.proofs.HoldsLemmas.{holds}
 use Rattle.pn_storecore.proofs.laws.holds_law.Goals as goal
 
 pub returns : goal.returns

@@ -1,4 +1,4 @@
-use Rattle.pn_storecore.proofs.Leaving.{leaves}
+use Rattle.pn_storecore.proofs.StandsLemmas.{leaves}
 use Rattle.pn_storecore.proofs.laws.leaves_law.Goals as goal
 
 pub returns : goal.returns

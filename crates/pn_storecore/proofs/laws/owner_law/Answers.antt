@@ -1,4 +1,4 @@
-use Rattle.pn_storecore.proofs.Owners.{owners}
+use Rattle.pn_storecore.proofs.OwnerLemmas.{owners}
 use Rattle.pn_storecore.proofs.laws.owner_law.Goals as goal
 
 pub returns : goal.returns

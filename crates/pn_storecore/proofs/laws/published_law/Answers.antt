@@ -1,4 +1,4 @@
-use Rattle.pn_storecore.proofs.Published.{published}
+use Rattle.pn_storecore.proofs.IsSoundLemmas.{published}
 use Rattle.pn_storecore.proofs.laws.published_law.Goals as goal
 
 pub returns : goal.returns

@@ -1,4 +1,4 @@
-use Rattle.pn_storecore.proofs.Published.{sound}
+use Rattle.pn_storecore.proofs.IsSoundLemmas.{sound}
 use Rattle.pn_storecore.proofs.laws.sound_law.Goals as goal
 
 pub returns : goal.returns

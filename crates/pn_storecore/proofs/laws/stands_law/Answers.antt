@@ -1,4 +1,4 @@
-use Rattle.pn_storecore.proofs.Leaving.{stands}
+use Rattle.pn_storecore.proofs.StandsLemmas.{stands}
 use Rattle.pn_storecore.proofs.laws.stands_law.Goals as goal
 
 pub returns : goal.returns

@@ -1,4 +1,4 @@
-use Rattle.pn_storecore.proofs.Past.{was}
+use Rattle.pn_storecore.proofs.WasLemmas.{was}
 use Rattle.pn_storecore.proofs.laws.was_law.Goals as goal
 
 pub returns : goal.returns

@@ -2,10 +2,10 @@ use Rattle.std.proofs.Common.{◌≡◌, get_or, List, map, take, drop, subst, s
 use Rattle.pn_walk.specs.Wants.{Wish, at_project}
 use Rattle.pn_walk.specs.Walks.{Turn, turn_by}
 use Rattle.pn_walk.specs.Starts.{turns_from}
-use Rattle.pn_walk.specs.Turns.{TookAll}
-use Rattle.pn_walk.proofs.Taking.{on_ways, keeps_on, keeps_same}
-use Rattle.pn_walk.proofs.Going.{took_none, took_all_from, stops_in_from}
-use Rattle.pn_walk.proofs.Starting.{split_first, more_first, took_on, stops_on}
+use Rattle.pn_walk.specs.Calls.{TookAll}
+use Rattle.pn_walk.proofs.TookLemmas.{on_ways, keeps_on, keeps_same}
+use Rattle.pn_walk.proofs.TookAllLemmas.{took_none, took_all_from, stops_in_from}
+use Rattle.pn_walk.proofs.StartLemmas.{split_first, more_first, took_on, stops_on}
 use Rattle.pn_walk.proofs.walk.take_projects.Goals as goal
 
 pub loop-q-init : goal.loop-q-init

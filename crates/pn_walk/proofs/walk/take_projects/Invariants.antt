@@ -1,7 +1,7 @@
 use Rattle.std.proofs.Common.{take}
-use Rattle.pn_walk.specs.Keeping.{Keeps}
+use Rattle.pn_walk.specs.Keeps.{Keeps}
 use Rattle.pn_walk.specs.Starts.{turns_from}
-use Rattle.pn_walk.specs.Turns.{TookAll}
+use Rattle.pn_walk.specs.Calls.{TookAll}
 use Rattle.pn_walk.specs.Places.{IsTied}
 use Rattle.pn_walk.proofs.walk.take_projects.Given as goal
 

@@ -13,7 +13,7 @@ use Rattle.pn_yaml.proofs.KeyLists.{seen_more}
 use Rattle.pn_yaml.proofs.NodeViews.{view-List, view-Map}
 use Rattle.pn_yaml.proofs.Rounds.{Reads, before_within, comma_shorter}
 use Rattle.pn_yaml.proofs.Shrinking.{within_ok}
-use Rattle.pn_yaml.proofs.Steps.{closed_step, open_step}
+use Rattle.pn_yaml.proofs.FlowStepLemmas.{closed_step, open_step}
 use Rattle.pn_yaml.proofs.flow.+flow.Goals as goal
 
 pub flow_at-returns-in-Some : goal.flow_at-returns-in-Some

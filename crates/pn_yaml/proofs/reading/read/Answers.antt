@@ -5,7 +5,7 @@ use Rattle.pn_yaml.specs.Data.{Data}
 use Rattle.pn_yaml.specs.Outcome.{Gives}
 use Rattle.pn_yaml.specs.View.{view}
 use Rattle.pn_yaml.proofs.ReadFacts.{apart_when_read, flat_when_read}
-use Rattle.pn_yaml.proofs.Texts.{says_text, says_other}
+use Rattle.pn_yaml.proofs.SaysLemmas.{says_text, says_other}
 use Rattle.pn_yaml.proofs.reading.read.Goals as goal
 
 pub returns-in-Ok : goal.returns-in-Ok

@@ -6,7 +6,7 @@ use Rattle.pn_yaml.specs.Cursor.{row_of, rows_ahead, rows_left}
 use Rattle.pn_yaml.specs.Rows.{first_ahead}
 use Rattle.pn_yaml.specs.View.{view}
 use Rattle.pn_yaml.proofs.Exits.{exit_gives, fails_on}
-use Rattle.pn_yaml.proofs.Texts.{text_from, alone_fails, alone_ok, alone_left}
+use Rattle.pn_yaml.proofs.SaysLemmas.{text_from, alone_fails, alone_ok, alone_left}
 use Rattle.pn_yaml.proofs.reading.read_text.Goals as goal
 
 pub returns-in_err-node : goal.returns-in_err-node

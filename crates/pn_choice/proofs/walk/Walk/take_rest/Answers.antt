@@ -1,7 +1,7 @@
 use Rattle.std.proofs.Common.{◌+◌, ◌≤◌, ◌<◌, length, Option, arith, subst}
 use Rattle.pn_fs.specs.Tree.{Tree}
 use Rattle.pn_choice.specs.Walks.{Takes, edges_at}
-use Rattle.pn_choice.proofs.Steps.{keeps_on, keeps_same}
+use Rattle.pn_fs.proofs.SeenLemmas.{keeps_on, keeps_same}
 use Rattle.pn_choice.proofs.Going.{along_start, along_more, along_done, within_more, stops_on}
 use Rattle.pn_choice.proofs.walk.Walk.take_rest.Goals as goal
 

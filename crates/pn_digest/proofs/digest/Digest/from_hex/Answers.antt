@@ -1,7 +1,7 @@
 use Rattle.std.proofs.Common.{◌≡◌, ◌∙◌, ap, sym, refl, true, false}
 use Rattle.std.proofs.lemmas.Slice.Eq.{bytes_eq-Decides}
 use Rattle.hex.specs.Hex.{encode_lower}
-use Rattle.pn_digest.proofs.HexTexts.{decoded, none_exact, some_exact, not_error}
+use Rattle.pn_digest.proofs.IsDigestLemmas.{decoded, none_exact, some_exact, not_error}
 use Rattle.pn_digest.proofs.digest.Digest.from_hex.Goals as goal
 
 pub returns-then-is_err : goal.returns-then-is_err

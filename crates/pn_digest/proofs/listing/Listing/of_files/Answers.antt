@@ -2,7 +2,7 @@ use Rattle.std.proofs.Common.{◌≡◌, List, refl, subst}
 use Rattle.std.specs.List.{Contains}
 use Rattle.pn_digest.specs.Listing.{Entry, IsEntry}
 use Rattle.pn_digest.specs.ListingFaults.{IsBadAt, IsTwiceAt, IsFirst, IsNowhere}
-use Rattle.pn_digest.proofs.Sound.{listing_of}
+use Rattle.pn_digest.proofs.IsListingLemmas.{listing_of}
 use Rattle.pn_digest.proofs.listing.Listing.of_files.Goals as goal
 
 none_bad : (files slice : List Entry) → slice ≡ files → IsNowhere (IsBadAt slice) → IsNowhere (IsBadAt files)

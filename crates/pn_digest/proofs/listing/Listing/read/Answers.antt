@@ -1,8 +1,8 @@
 use Rattle.std.proofs.Common.{sym, ◌∙◌, subst}
 use Rattle.pn_digest.specs.Listing.{IsRising}
 use Rattle.pn_digest.specs.ListingFaults.{IsBadAt, IsFirst, IsNowhere}
-use Rattle.pn_digest.proofs.OneText.{one_text, found, not_found}
-use Rattle.pn_digest.proofs.Sound.{listing_is, none_in_listing}
+use Rattle.pn_digest.proofs.IsListingTextLemmas.{one_text, found, not_found}
+use Rattle.pn_digest.proofs.IsListingLemmas.{listing_is, none_in_listing}
 use Rattle.pn_digest.proofs.listing.Listing.read.Goals as goal
 
 pub returns-then-not-is_rising-clause-refused : goal.returns-then-not-is_rising-clause-refused

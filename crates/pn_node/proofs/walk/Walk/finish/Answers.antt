@@ -2,8 +2,10 @@ use Rattle.std.proofs.Common.{◌≡◌, sym, ◌∙◌, Some, None, arith}
 use Rattle.pn_node.specs.Find.{walk}
 use Rattle.pn_node.specs.Steps.{steps_of}
 use Rattle.pn_node.specs.Legs.{EndsAt}
-use Rattle.pn_node.proofs.LegLemmas.{walk_there, walk_nowhere, walk_onward, keeps_on, for_some, if_some}
+use Rattle.pn_node.proofs.LegLemmas.{walk_there, walk_nowhere, walk_onward}
 use Rattle.pn_node.proofs.walk.Walk.finish.Goals as goal
+use Rattle.pn_text.proofs.Results.{for_some, if_some}
+use Rattle.pn_fs.proofs.SeenLemmas.{keeps_on}
 
 pub returns-in-There-clause-found : goal.returns-in-There-clause-found
 returns-in-There-clause-found g c =
@@ -25,7 +27,7 @@ pub legs-preserved : goal.legs-preserved
 legs-preserved g c =
     let inv = c.legs.invariant in
     record {
-      kept = keeps_on inv.kept c.in_ok-leg.ensures.kept;
+      kept = keeps_on _ _ _ inv.kept c.in_ok-leg.ensures.kept;
       left = λ t told.
           inv.left t told
           ∙ walk_onward c.legs.links t c.legs.self.at (steps_of c.legs.self.steps.items) c.leg.new.self.at (steps_of c.leg.new.self.steps.items) c.in_ok-leg.field-0

@@ -1,4 +1,4 @@
-use Rattle.std.proofs.Common.{subst, sym, ◌≡◌, true, ◌∙◌, ap}
+use Rattle.std.proofs.Common.{subst, ◌≡◌, ◌∙◌, ap}
 use Rattle.std.specs.Prelude.{IfOk}
 use Rattle.pn_text.specs.Name.{is_name}
 use Rattle.pn_text.proofs.IdTexts.{read_is}

@@ -1,8 +1,7 @@
-use Rattle.std.proofs.Common.{◌≡◌, ap, sym, ◌∙◌, rules, List, ◌++◌, ◌∷◌, [], length}
-use Rattle.pn_walk.specs.Wants.{Id, Node}
+use Rattle.std.proofs.Common.{◌≡◌, ap, sym, ◌∙◌, rules, ◌++◌, ◌∷◌, [], length}
 use Rattle.pn_walk.specs.Walks.{place_of}
 use Rattle.pn_walk.specs.Places.{KeepsPlace}
-use Rattle.pn_walk.proofs.Placing.{tied_more}
+use Rattle.pn_walk.proofs.PlaceLemmas.{tied_more}
 use Rattle.pn_walk.proofs.state.Queue.add.Goals as goal
 
 pub returns-clause-tied : goal.returns-clause-tied

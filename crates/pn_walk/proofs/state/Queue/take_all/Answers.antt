@@ -1,6 +1,6 @@
 use Rattle.pn_walk.specs.Walks.{turn_by}
-use Rattle.pn_walk.proofs.Taking.{on_ways, took_from, refused_from, keeps_on, keeps_same}
-use Rattle.pn_walk.proofs.Going.{took_none, took_next, stops_in}
+use Rattle.pn_walk.proofs.TookLemmas.{on_ways, took_from, refused_from, keeps_on, keeps_same}
+use Rattle.pn_walk.proofs.TookAllLemmas.{took_none, took_next, stops_in}
 use Rattle.pn_walk.proofs.state.Queue.take_all.Goals as goal
 
 pub loop-wish-init : goal.loop-wish-init

@@ -1,7 +1,7 @@
 use Rattle.std.proofs.Common.{map, take}
-use Rattle.pn_walk.specs.Keeping.{Keeps}
+use Rattle.pn_walk.specs.Keeps.{Keeps}
 use Rattle.pn_walk.specs.Walks.{turn_by}
-use Rattle.pn_walk.specs.Turns.{TookAll}
+use Rattle.pn_walk.specs.Calls.{TookAll}
 use Rattle.pn_walk.specs.Places.{IsTied}
 use Rattle.pn_walk.proofs.state.Queue.take_all.Given as goal
 

@@ -1,9 +1,9 @@
 use Rattle.std.proofs.Common.{◌≡◌, ◌<◌, List, length, map, subst, ap, arith, ◌∙◌, length-append, get_or}
 use Rattle.pn_walk.specs.Wants.{Wish, Node, at_package}
 use Rattle.pn_walk.specs.Walks.{turn_by}
-use Rattle.pn_walk.specs.Turns.{TookAll, StopsIn}
-use Rattle.pn_walk.proofs.Taking.{on_ways, keeps_on}
-use Rattle.pn_walk.proofs.Going.{walk_at, stops_at, stops, took_all_from, stops_in_from}
+use Rattle.pn_walk.specs.Calls.{TookAll, StopsIn}
+use Rattle.pn_walk.proofs.TookLemmas.{on_ways, keeps_on}
+use Rattle.pn_walk.proofs.TookAllLemmas.{walk_at, stops_at, stops, took_all_from, stops_in_from}
 use Rattle.pn_walk.proofs.state.Queue.take_rest.Goals as goal
 
 pub returns-in-Err-clause-refused : goal.returns-in-Err-clause-refused

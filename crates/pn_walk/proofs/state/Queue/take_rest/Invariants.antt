@@ -1,7 +1,7 @@
 use Rattle.std.proofs.Common.{◌≤◌, length, drop}
-use Rattle.pn_walk.specs.Keeping.{Keeps}
+use Rattle.pn_walk.specs.Keeps.{Keeps}
 use Rattle.pn_walk.specs.Walks.{State, Walk, turns_of}
-use Rattle.pn_walk.specs.Turns.{at}
+use Rattle.pn_walk.specs.Calls.{at}
 use Rattle.pn_walk.specs.Places.{IsTied}
 use Rattle.pn_walk.proofs.state.Queue.take_rest.Given as goal
 

@@ -1,0 +1,140 @@
+-- How a run ends gives each answer its cause.
+use Rattle.std.proofs.Common.{◌≡◌, ◌⊎◌, ◌∷◌, refl, sym, subst, inl, inr}
+use Rattle.pn_text.specs.Path.{Path}
+use Rattle.pn_choice.specs.declared.fault.ReachFault.{ReachFault}
+use Rattle.pn_choice.specs.declared.fault.ReachFault.TheVariants.{NotYet as FaultNotYet, NoVersion as FaultNoVersion, TextLimit as FaultText, Manifest as FaultManifest, Packages as FaultPackages, Fault as ReachFailed, Memory as NoReachMemory}
+use Rattle.pn_choice.specs.Refusals.{IsStopped}
+use Rattle.pn_collect.specs.declared.fault.CollectFault.{CollectFault}
+use Rattle.pn_collect.specs.declared.fault.CollectFault.TheVariants.{Modules, TooLarge, Entries as FaultEntries, Fault as CollectFailed, Memory as NoCollectMemory}
+use Rattle.pn_collect.specs.CollectFaults.{IsFirstRefused}
+use Rattle.pn_cmd.specs.declared.status.Which.TheVariants.{File, Text, Path as PathLength}
+use Rattle.pn_cmd.specs.declared.status.Status.{Status}
+use Rattle.pn_cmd.specs.declared.status.Status.TheVariants.{Memory, Usage, Manifest as BadManifest, Limit, ProjectFault, RegistryFault, SinkFault, NotYet}
+use Rattle.pn_cmd.specs.World.{World, Inputs, Shown, shown, trees_of}
+use Rattle.pn_cmd.specs.Points.{Refuses, then}
+use Rattle.pn_cmd.specs.Names.{workspace_name, package_name, lock_name, modules_path}
+use Rattle.pn_cmd.specs.Standing.{Stands}
+use Rattle.pn_cmd.specs.Manifests.{NoManifest}
+use Rattle.pn_cmd.specs.Graph.{reach_status}
+use Rattle.pn_cmd.specs.Known.{Graph, Project, Sources, Build}
+use Rattle.pn_cmd.specs.Packages.{collect_status}
+use Rattle.pn_cmd.specs.Plans.{TooLong}
+use Rattle.pn_cmd.specs.Chain.{words_at, workspace_at, manifest_at, lock_at, reached_at, modules_at, listed_at, planned_at, tree, goal, install, to_workspace, to_manifest, to_lock, to_reached, to_modules, StandsAt, at_words, at_workspace, at_manifest, at_lock, at_reached, at_modules, at_listed, at_planned}
+use Rattle.pn_cmd.specs.Endings.{refused, stopped, unreported, done, Stops, Unreported}
+use Rattle.pn_cmd.specs.Causes.{CauseOf, IsKept, IsUnread, IsUnreached, IsUnlisted, IsUnplanned}
+use Rattle.pn_cmd.specs.Laws.{CauseLaw}
+use Rattle.pn_cmd.proofs.PointLemmas.{leads_then}
+
+tree_at : (i : Inputs) (w : Shown) (s : Status) (k : Graph) → to_reached.Finds i w.trees k → tree.Cause k w s → StandsAt i w s
+tree_at i w s k f =
+    leads_then modules_at (then listed_at planned_at) k w s (λ c. at_modules (k, f, c)) (λ k6 f6.
+    let g6 : to_modules.Finds i w.trees k6 = record { value = k; first = f; rest = f6 } in
+    leads_then listed_at planned_at k6 w s (λ c. at_listed (k6, g6, c)) (λ k7 f7 c.
+    at_planned (k7, record { value = k6; first = g6; rest = f7 }, c)))
+
+goal_at : (i : Inputs) (w : Shown) (s : Status) (k : Project) → to_manifest.Finds i w.trees k → goal.Cause k w s → StandsAt i w s
+goal_at i w s k f =
+    leads_then lock_at (then reached_at tree) k w s (λ c. at_lock (k, f, c)) (λ k4 f4.
+    let g4 : to_lock.Finds i w.trees k4 = record { value = k; first = f; rest = f4 } in
+    leads_then reached_at tree k4 w s (λ c. at_reached (k4, g4, c)) (λ k5 f5 c.
+    tree_at i w s k5 (record { value = k4; first = g4; rest = f5 }) c))
+
+-- the cause of a refusal is at one of the points, after all that is found before it
+pub refused_at : (i : Inputs) (w : Shown) (s : Status) → install.Cause i w s → StandsAt i w s
+refused_at i w s =
+    leads_then words_at (then workspace_at (then manifest_at goal)) i w s at_words (λ k1 f1.
+    leads_then workspace_at (then manifest_at goal) k1 w s (λ c. at_workspace (k1, f1, c)) (λ k2 f2.
+    let g2 : to_workspace.Finds i w.trees k2 = record { value = k1; first = f1; rest = f2 } in
+    leads_then manifest_at goal k2 w s (λ c. at_manifest (k2, g2, c)) (λ k3 f3 c.
+    goal_at i w s k3 (record { value = k2; first = g2; rest = f3 }) c)))
+
+words_cause : (i : Inputs) (old new : World) (s : Status) → words_at.Cause i (shown old) s → CauseOf i old new s
+words_cause i old new Usage h = h
+words_cause i old new s h = absurd h
+
+stands_cause : (i : Inputs) (old new : World) (s : Status) (p : Path) → Stands p (shown old) s → IsKept i (shown old) s → Refuses (install.Cause i) old new s → CauseOf i old new s
+stands_cause i old new ProjectFault p h k r = r.0
+stands_cause i old new (Limit PathLength n) p h k r = inl k
+stands_cause i old new (NotYet text) p h k r = inl k
+stands_cause i old new s p h k r = absurd h
+
+manifest_cause : (i : Inputs) (old new : World) (s : Status) (p : Path) → NoManifest p (shown old) s → IsUnread i (shown old) s → Refuses (install.Cause i) old new s → CauseOf i old new s
+manifest_cause i old new ProjectFault p h k r = r.0
+manifest_cause i old new (Limit PathLength n) p h k r = inr (inl k)
+manifest_cause i old new (Limit Text n) p h k r = inl k
+manifest_cause i old new (BadManifest text why) p h k r = inl k
+manifest_cause i old new (NotYet key) p h k r = inr (inl k)
+manifest_cause i old new s p h k r = absurd h
+
+reach_cause : (i : Inputs) (old new : World) (k : Project) → to_lock.Finds i (shown old).trees k → (fault : ReachFault) → IsStopped k.own old.registry.tree fault → CauseOf i old new (reach_status fault)
+reach_cause i old new k f (FaultNotYet text) h = inr (inr (inl (k, f, (FaultNotYet text, refl, h))))
+reach_cause i old new k f (FaultNoVersion e) h = (k, f, (FaultNoVersion e, refl, h))
+reach_cause i old new k f (FaultText n) h = inr (k, f, (FaultText n, refl, h))
+reach_cause i old new k f (FaultManifest id why) h = inr (k, f, (FaultManifest id why, refl, h))
+reach_cause i old new k f (FaultPackages n) h = (k, f, (FaultPackages n, refl, h))
+reach_cause i old new k f ReachFailed h = absurd h.refused
+reach_cause i old new k f NoReachMemory h = tt
+
+reached_cause : (i : Inputs) (old new : World) (s : Status) → IsUnreached i (shown old) s → Refuses (install.Cause i) old new s → CauseOf i old new s
+reached_cause i old new RegistryFault h r = r.0
+reached_cause i old new s h r = subst (CauseOf i old new) (sym h.2.1) (reach_cause i old new h.0 h.1 h.2.0 h.2.2)
+
+collect_cause : (i : Inputs) (old new : World) (k : Graph) → to_modules.Finds i (shown old).trees k → (fault : CollectFault) → IsFirstRefused k.met old.registry.tree fault → CauseOf i old new (collect_status fault)
+collect_cause i old new k f (Modules path) h = inr (inr (inr (k, f, (Modules path, refl, h))))
+collect_cause i old new k f (TooLarge n) h = inl (k, f, (TooLarge n, refl, h))
+collect_cause i old new k f FaultEntries h = (k, f, (FaultEntries, refl, h))
+collect_cause i old new k f CollectFailed h = absurd h.refused
+collect_cause i old new k f NoCollectMemory h = tt
+
+listed_cause : (i : Inputs) (old new : World) (s : Status) → IsUnlisted i (shown old) s → Refuses (install.Cause i) old new s → CauseOf i old new s
+listed_cause i old new RegistryFault h r = r.0
+listed_cause i old new s h r = subst (CauseOf i old new) (sym h.2.1) (collect_cause i old new h.0 h.1 h.2.0 h.2.2)
+
+planned_cause : (i : Inputs) (old new : World) (s : Status) (k : Sources) → TooLong k (shown old) s → IsUnplanned i (shown old) s → CauseOf i old new s
+planned_cause i old new (Limit PathLength n) k h all = inr (inr all)
+planned_cause i old new s k h all = absurd h
+
+at_point : (i : Inputs) (old new : World) (s : Status) → StandsAt i (shown old) s → Refuses (install.Cause i) old new s → CauseOf i old new s
+at_point i old new s (at_words h) r = words_cause i old new s h
+at_point i old new s (at_workspace h) r = stands_cause i old new s (workspace_name ∷ h.0) h.2 (inl h) r
+at_point i old new s (at_manifest h) r = manifest_cause i old new s (package_name ∷ h.0) h.2 h r
+at_point i old new s (at_lock h) r = stands_cause i old new s (lock_name ∷ h.0.place) h.2 (inr (inl h)) r
+at_point i old new s (at_reached h) r = reached_cause i old new s h r
+at_point i old new s (at_modules h) r = stands_cause i old new s (modules_path h.0.project.place) h.2 (inr (inr h)) r
+at_point i old new s (at_listed h) r = listed_cause i old new s h r
+at_point i old new s (at_planned h) r = planned_cause i old new s h.0 h.2 h
+
+-- what a refusal says besides the count of faults
+pub cause_in : (C : Shown → Status → Type 0) (old new : World) (s : Status) → Refuses C old new s → (s ≡ Memory) ⊎ C (shown old) s
+cause_in C old new Memory h = inl refl
+cause_in C old new ProjectFault h = inr h.1
+cause_in C old new RegistryFault h = inr h.1
+cause_in C old new SinkFault h = inr h.1
+cause_in C old new s h = inr h
+
+refused_cause : (i : Inputs) (old new : World) (s : Status) → Refuses (install.Cause i) old new s → CauseOf i old new s
+refused_cause i old new s r = elim (cause_in (install.Cause i) old new s r) [
+  | inl e ↦ subst (CauseOf i old new) (sym e) tt
+  | inr c ↦ at_point i old new s (refused_at i (shown old) s c) r
+]
+
+stops_cause : (i : Inputs) (old new : World) (s : Status) → Refuses Stops old new s → CauseOf i old new s
+stops_cause i old new Memory h = tt
+stops_cause i old new ProjectFault h = h.0
+stops_cause i old new RegistryFault h = h.0
+stops_cause i old new (Limit File n) h = inr h
+stops_cause i old new SinkFault h = absurd h.1
+stops_cause i old new s h = absurd h
+
+unreported_cause : (i : Inputs) (old new : World) (s : Status) (b : Build) → install.Finds i (trees_of old) b → Refuses Unreported old new s → CauseOf i old new s
+unreported_cause i old new Memory b f h = tt
+unreported_cause i old new SinkFault b f h = (h.0, (b, f))
+unreported_cause i old new ProjectFault b f h = absurd h.1
+unreported_cause i old new RegistryFault b f h = absurd h.1
+unreported_cause i old new s b f h = absurd h
+
+pub end_cause : CauseLaw
+end_cause i old new _ (refused s r u) = refused_cause i old new s r
+end_cause i old new _ (stopped s b p f h) = stops_cause i old new s f
+end_cause i old new _ (unreported s b p f w t) = unreported_cause i old new s b p f
+end_cause i old new _ (done b d) = (b, d)

@@ -1,0 +1,158 @@
+-- Of told trees each point refuses for one cause.
+use Rattle.std.proofs.Common.{◌≡◌, ◌<◌, ◌≤◌, ◌⊎◌, ℕ, List, refl, sym, ap, ◌∙◌, subst, arith, Option, Some, None, inl, inr, length}
+use Rattle.std.proofs.lemmas.Option.{same_Some}
+use Rattle.serde_json.specs.Data.{Data}
+use Rattle.pn_text.specs.declared.limits.TheConstants.{PATH_LIMIT, TEXT_LIMIT}
+use Rattle.pn_text.specs.Path.{Path, path_text}
+use Rattle.pn_fs.specs.Tree.{Entry, Tree, IsTree}
+use Rattle.pn_fs.proofs.SeenLemmas.{file_once as same_file}
+use Rattle.pn_read.specs.Small.{IsFileOf}
+use Rattle.pn_manifest.specs.Text.{IsObjectText}
+use Rattle.pn_manifest.specs.Fields.{first_wrong}
+use Rattle.pn_manifest.specs.Pairs.{Pair}
+use Rattle.pn_choice.specs.Walked.{IsReached}
+use Rattle.pn_choice.specs.Refusals.{IsStopped}
+use Rattle.pn_choice.specs.declared.fault.ReachFault.{ReachFault}
+use Rattle.pn_choice.specs.declared.package.Package.{Package as Found}
+use Rattle.pn_choice.proofs.Settled.{cause as reached_cause}
+use Rattle.pn_collect.specs.CollectFaults.{IsFirstRefused}
+use Rattle.pn_collect.specs.declared.fault.CollectFault.{CollectFault}
+use Rattle.pn_collect.proofs.CauseLemmas.{cause as listed_cause}
+use Rattle.pn_manifest.specs.declared.fault.ManifestWhy.TheVariants.{Missing, NotJson, BadField}
+use Rattle.pn_cmd.specs.declared.status.Which.TheVariants.{Text, Path as PathLength}
+use Rattle.pn_cmd.specs.declared.status.Status.{Status}
+use Rattle.pn_cmd.specs.declared.status.Status.TheVariants.{Usage, Manifest as BadManifest, Limit, ProjectFault, RegistryFault, NotYet}
+use Rattle.pn_cmd.specs.World.{Shown}
+use Rattle.pn_cmd.specs.Words.{AreNoCommand}
+use Rattle.pn_cmd.specs.Standing.{Stands}
+use Rattle.pn_cmd.specs.Manifests.{NoManifest, IsText, IsManifest, IsWrong, project_later}
+use Rattle.pn_cmd.specs.Graph.{Unreached, reach_status}
+use Rattle.pn_cmd.specs.Packages.{Unlisted, collect_status}
+use Rattle.pn_cmd.specs.Laws.{IsOwn}
+use Rattle.pn_cmd.proofs.OrderLemmas.{same_data}
+
+-- these trees are told
+abbrev pub told : Tree → Tree → Shown
+told t r = record { trees = record { project = Some t; registry = Some r } }
+
+pub words_once : (words : List (List ℕ)) (w : Shown) (s v : Status) → AreNoCommand words w s → AreNoCommand words w v → s ≡ v
+words_once words w Usage Usage h k = refl
+words_once words w Usage v h k = absurd k
+words_once words w s v h k = absurd h
+
+-- the path is too long, or it has a text that is told
+stands_as : (p : Path) (w : Shown) (s : Status) → IsOwn s → Stands p w s → ((PATH_LIMIT < length (path_text p)) × (s ≡ Limit PathLength (length (path_text p)))) ⊎ ((length (path_text p) ≤ PATH_LIMIT) × (s ≡ NotYet (path_text p)))
+stands_as p w (Limit PathLength n) o h = inl (omega (arith, h.0, h.1), ap (Limit PathLength) h.0)
+stands_as p w (NotYet text) o h = inr (subst (λ (l : List ℕ). length l ≤ PATH_LIMIT) h.0 h.1, ap NotYet h.0)
+stands_as p w ProjectFault o h = absurd o
+stands_as p w s o h = absurd h
+
+pub stands_once : (p : Path) (w : Shown) (s v : Status) → Stands p w s → Stands p w v → IsOwn s → IsOwn v → s ≡ v
+stands_once p w s v h k o u = one (stands_as p w s o h) (stands_as p w v u k)
+  where
+    one : ((PATH_LIMIT < length (path_text p)) × (s ≡ Limit PathLength (length (path_text p)))) ⊎ ((length (path_text p) ≤ PATH_LIMIT) × (s ≡ NotYet (path_text p)))
+        → ((PATH_LIMIT < length (path_text p)) × (v ≡ Limit PathLength (length (path_text p)))) ⊎ ((length (path_text p) ≤ PATH_LIMIT) × (v ≡ NotYet (path_text p))) → s ≡ v
+    one (inl a) (inl b) = a.1 ∙ sym b.1
+    one (inl a) (inr b) = absurd (omega (arith, a.0, b.0))
+    one (inr a) (inl b) = absurd (omega (arith, a.0, b.0))
+    one (inr a) (inr b) = a.1 ∙ sym b.1
+
+-- why a file that is told is refused as a manifest
+abbrev FileRefused : Path → Option Entry → Status → Type 0
+FileRefused p e (Limit Text n) = (TEXT_LIMIT < n) × IsFileOf n e
+FileRefused p e (BadManifest text why) = (text ≡ path_text p) × IsWrong e why
+FileRefused p e (NotYet key) = (d : Data) × IsManifest e d × (project_later d ≡ Some key)
+FileRefused p e s = ⊥
+
+too_long : (e : Option Entry) (n : ℕ) (bytes : List ℕ) → TEXT_LIMIT < n → IsFileOf n e → IsText e bytes → ⊥
+too_long e n bytes large h text = omega (arith, text.short, ap length (same_file e bytes h.0 text.is h.1), h.2, large)
+
+one_value : (e : Option Entry) (a b : List ℕ) (d f : Data) → IsText e a → IsText e b → IsObjectText a d → IsObjectText b f → d ≡ f
+one_value e a b d f h k m n = same_data a b d f (same_file e a b h.is k.is) m n
+
+no_value : (e : Option Entry) (a b : List ℕ) (d : Data) → IsText e a → IsText e b → ((f : Data) → IsObjectText a f → ⊥) → IsObjectText b d → ⊥
+no_value e a b d h k none m = none d (subst (λ l. IsObjectText l d) (same_file e b a k.is h.is) m)
+
+apart : {X : Type 0} (x : X) → Some x ≡ None → ⊥
+apart x h = cc h
+
+file_once : (p : Path) (e : Option Entry) (s v : Status) → FileRefused p e s → FileRefused p e v → s ≡ v
+file_once p e (Limit Text n) (Limit Text m) h k = ap (Limit Text) (h.1.2 ∙ ap length (same_file e h.1.0 k.1.0 h.1.1 k.1.1) ∙ sym k.1.2)
+file_once p e (Limit Text n) (BadManifest u Missing) h k = absurd (k.1 h.1.0 h.1.1)
+file_once p e (Limit Text n) (BadManifest u NotJson) h k = absurd (too_long e n k.1.0 h.0 h.1 k.1.1)
+file_once p e (Limit Text n) (BadManifest u (BadField f g)) h k = absurd (too_long e n k.1.0 h.0 h.1 k.1.2)
+file_once p e (Limit Text n) (NotYet key) h k = absurd (too_long e n k.1.bytes h.0 h.1 k.1.stands)
+file_once p e (Limit Text n) v h k = absurd k
+file_once p e (BadManifest t Missing) (Limit Text n) h k = absurd (h.1 k.1.0 k.1.1)
+file_once p e (BadManifest t Missing) (BadManifest u Missing) h k = ap (λ (l : List ℕ). BadManifest l Missing) (h.0 ∙ sym k.0)
+file_once p e (BadManifest t Missing) (BadManifest u NotJson) h k = absurd (h.1 k.1.0 k.1.1.is)
+file_once p e (BadManifest t Missing) (BadManifest u (BadField f g)) h k = absurd (h.1 k.1.0 k.1.2.is)
+file_once p e (BadManifest t Missing) (NotYet key) h k = absurd (h.1 k.1.bytes k.1.stands.is)
+file_once p e (BadManifest t Missing) v h k = absurd k
+file_once p e (BadManifest t NotJson) (Limit Text n) h k = absurd (too_long e n h.1.0 k.0 k.1 h.1.1)
+file_once p e (BadManifest t NotJson) (BadManifest u Missing) h k = absurd (k.1 h.1.0 h.1.1.is)
+file_once p e (BadManifest t NotJson) (BadManifest u NotJson) h k = ap (λ (l : List ℕ). BadManifest l NotJson) (h.0 ∙ sym k.0)
+file_once p e (BadManifest t NotJson) (BadManifest u (BadField f g)) h k = absurd (no_value e h.1.0 k.1.0 k.1.1 h.1.1 k.1.2 h.1.2 k.1.3)
+file_once p e (BadManifest t NotJson) (NotYet key) h k = absurd (no_value e h.1.0 k.1.bytes k.0 h.1.1 k.1.stands h.1.2 k.1.text)
+file_once p e (BadManifest t NotJson) v h k = absurd k
+file_once p e (BadManifest t (BadField a b)) (Limit Text n) h k = absurd (too_long e n h.1.0 k.0 k.1 h.1.2)
+file_once p e (BadManifest t (BadField a b)) (BadManifest u Missing) h k = absurd (k.1 h.1.0 h.1.2.is)
+file_once p e (BadManifest t (BadField a b)) (BadManifest u NotJson) h k = absurd (no_value e k.1.0 h.1.0 h.1.1 k.1.1 h.1.2 k.1.2 h.1.3)
+file_once p e (BadManifest t (BadField a b)) (BadManifest u (BadField f g)) h k =
+    let one = one_value e h.1.0 k.1.0 h.1.1 k.1.1 h.1.2 k.1.2 h.1.3 k.1.3 in
+    let spot : (a, b) ≡ (f, g) = same_Some (a, b) (f, g) (sym h.1.4 ∙ ap first_wrong one ∙ k.1.4) in
+    let text : t ≡ u = h.0 ∙ sym k.0 in
+    λ i. BadManifest (text i) (BadField (spot i).0 (spot i).1)
+file_once p e (BadManifest t (BadField a b)) (NotYet key) h k =
+    let one = one_value e h.1.0 k.1.bytes h.1.1 k.0 h.1.2 k.1.stands h.1.3 k.1.text in
+    absurd (apart (a, b) (sym h.1.4 ∙ ap first_wrong one ∙ k.1.right))
+file_once p e (BadManifest t (BadField a b)) v h k = absurd k
+file_once p e (NotYet key) (Limit Text n) h k = absurd (too_long e n h.1.bytes k.0 k.1 h.1.stands)
+file_once p e (NotYet key) (BadManifest u Missing) h k = absurd (k.1 h.1.bytes h.1.stands.is)
+file_once p e (NotYet key) (BadManifest u NotJson) h k = absurd (no_value e k.1.0 h.1.bytes h.0 k.1.1 h.1.stands k.1.2 h.1.text)
+file_once p e (NotYet key) (BadManifest u (BadField f g)) h k =
+    let one = one_value e h.1.bytes k.1.0 h.0 k.1.1 h.1.stands k.1.2 h.1.text k.1.3 in
+    absurd (apart (f, g) (sym k.1.4 ∙ ap first_wrong (sym one) ∙ h.1.right))
+file_once p e (NotYet key) (NotYet other) h k =
+    let one = one_value e h.1.bytes k.1.bytes h.0 k.0 h.1.stands k.1.stands h.1.text k.1.text in
+    ap NotYet (same_Some key other (sym h.2 ∙ ap project_later one ∙ k.2))
+file_once p e (NotYet key) v h k = absurd k
+file_once p e s v h k = absurd h
+
+manifest_as : (t r : Tree) (p : Path) (s : Status) → IsOwn s → NoManifest p (told t r) s → ((PATH_LIMIT < length (path_text p)) × (s ≡ Limit PathLength (length (path_text p)))) ⊎ ((length (path_text p) ≤ PATH_LIMIT) × FileRefused p (t p) s)
+manifest_as t r p (Limit PathLength n) o h = inl (omega (arith, h.0, h.1), ap (Limit PathLength) h.0)
+manifest_as t r p (Limit Text n) o h = inr (h.0, (h.1, h.2))
+manifest_as t r p (BadManifest text why) o h = inr (h.0, (h.1, h.2))
+manifest_as t r p (NotYet key) o h = inr h
+manifest_as t r p ProjectFault o h = absurd o
+manifest_as t r p s o h = absurd h
+
+pub manifest_once : (t r : Tree) (p : Path) (s v : Status) → NoManifest p (told t r) s → NoManifest p (told t r) v → IsOwn s → IsOwn v → s ≡ v
+manifest_once t r p s v h k o u = one (manifest_as t r p s o h) (manifest_as t r p v u k)
+  where
+    one : ((PATH_LIMIT < length (path_text p)) × (s ≡ Limit PathLength (length (path_text p)))) ⊎ ((length (path_text p) ≤ PATH_LIMIT) × FileRefused p (t p) s)
+        → ((PATH_LIMIT < length (path_text p)) × (v ≡ Limit PathLength (length (path_text p)))) ⊎ ((length (path_text p) ≤ PATH_LIMIT) × FileRefused p (t p) v) → s ≡ v
+    one (inl a) (inl b) = a.1 ∙ sym b.1
+    one (inl a) (inr b) = absurd (omega (arith, a.0, b.0))
+    one (inr a) (inl b) = absurd (omega (arith, a.0, b.0))
+    one (inr a) (inr b) = file_once p (t p) s v a.1 b.1
+
+reach_shown : (own : List Pair) (w : Shown) (s : Status) → IsOwn s → Unreached own w s → (fault : ReachFault) × (s ≡ reach_status fault) × IsStopped own w.trees.registry fault
+reach_shown own w RegistryFault o h = absurd o
+reach_shown own w s o h = h
+
+pub reached_once : (t r : Tree) (own : List Pair) (s v : Status) → Unreached own (told t r) s → Unreached own (told t r) v → IsOwn s → IsOwn v → s ≡ v
+reached_once t r own s v h k o u =
+    let a = reach_shown own (told t r) s o h in
+    let b = reach_shown own (told t r) v u k in
+    a.1 ∙ ap reach_status (reached_cause r own a.0 b.0 a.2 b.2) ∙ sym b.1
+
+list_shown : (met : List Found) (w : Shown) (s : Status) → IsOwn s → Unlisted met w s → (fault : CollectFault) × (s ≡ collect_status fault) × IsFirstRefused met w.trees.registry fault
+list_shown met w RegistryFault o h = absurd o
+list_shown met w s o h = h
+
+pub listed_once : (t r : Tree) (own : List Pair) (met : List Found) (s v : Status) → IsTree r → IsReached (Some r) own met → Unlisted met (told t r) s → Unlisted met (told t r) v → IsOwn s → IsOwn v → s ≡ v
+listed_once t r own met s v tree reached h k o u =
+    let a = list_shown met (told t r) s o h in
+    let b = list_shown met (told t r) v u k in
+    a.1 ∙ ap collect_status (listed_cause r own met a.0 b.0 tree reached a.2 b.2) ∙ sym b.1

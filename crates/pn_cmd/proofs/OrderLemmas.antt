@@ -1,0 +1,94 @@
+-- A point that is passed has no cause.
+use Rattle.std.proofs.Common.{◌≡◌, ℕ, List, ap, subst, arith, Option, Some, None, length}
+use Rattle.std.specs.Prelude.{IfSome}
+use Rattle.serde_json.specs.Data.{Data}
+use Rattle.pn_text.specs.Path.{Path}
+use Rattle.pn_fs.specs.Tree.{Tree}
+use Rattle.pn_fs.proofs.SeenLemmas.{file_once}
+use Rattle.pn_manifest.specs.Text.{IsObjectText}
+use Rattle.pn_manifest.specs.Fields.{first_wrong}
+use Rattle.pn_choice.specs.Walked.{IsReached}
+use Rattle.pn_choice.specs.Refusals.{IsStopped}
+use Rattle.pn_choice.proofs.Settled.{passed as reached_passed}
+use Rattle.pn_collect.specs.Packages.{ArePackages}
+use Rattle.pn_collect.specs.CollectFaults.{IsFirstRefused}
+use Rattle.pn_collect.proofs.Passed.{passed as listed_passed}
+use Rattle.pn_manifest.specs.declared.fault.ManifestWhy.TheVariants.{Missing, NotJson, BadField}
+use Rattle.pn_cmd.specs.declared.status.Which.TheVariants.{Text, Path as PathLength}
+use Rattle.pn_cmd.specs.declared.status.Status.{Status}
+use Rattle.pn_cmd.specs.declared.status.Status.TheVariants.{Usage, Manifest as BadManifest, Limit, ProjectFault, RegistryFault, NotYet}
+use Rattle.pn_cmd.specs.Points.{IsFree, Excludes}
+use Rattle.pn_cmd.specs.Words.{words}
+use Rattle.pn_cmd.specs.Standing.{standing}
+use Rattle.pn_cmd.specs.Manifests.{NoManifest, IsProjectManifest, manifest, project_later}
+use Rattle.pn_cmd.specs.Graph.{reached}
+use Rattle.pn_cmd.specs.Packages.{listed}
+use Rattle.pn_cmd.specs.Plans.{planned}
+use Rattle.pn_cmd.specs.Laws.{AreTold, OrderLaw}
+
+words_law : Excludes words AreTold
+words_law x w y Usage told ok h = absurd (cc (ok, h))
+words_law x w y s told ok h = absurd h
+
+stands_law : Excludes standing AreTold
+stands_law p w y (Limit PathLength n) told ok h = absurd (omega (arith, ok.fits, h.0, h.1))
+stands_law p w y (NotYet text) told ok h =
+    let absent : told.tree p ≡ None = subst (λ (o : Option Tree). IfSome o (λ t. t p ≡ None)) told.project ok.absent in
+    absurd (subst (λ (o : Option Tree). IfSome o (λ t. t p ≡ None → ⊥)) told.project h.2 absent)
+stands_law p w y ProjectFault told ok h = tt
+stands_law p w y s told ok h = absurd h
+
+pub same_data : (bytes other : List ℕ) (d f : Data) → bytes ≡ other → IsObjectText bytes d → IsObjectText other f → d ≡ f
+same_data bytes other d f e h k = cc (h.read, k.read, e)
+
+-- the same where the tree is written out
+manifest_at : (t : Tree) (registry : Option Tree) (p : Path) (d : Data) (s : Status) → IsProjectManifest (Some t) p d → NoManifest p (record { trees = record { project = Some t; registry = registry } }) s → IsFree s
+manifest_at t registry p d ProjectFault ok h = tt
+manifest_at t registry p d (Limit PathLength n) ok h = absurd (omega (arith, ok.fits, h.0, h.1))
+manifest_at t registry p d (Limit Text n) ok h =
+    let m = ok.read in
+    absurd (omega (arith, m.stands.short, ap length (file_once (t p) m.bytes h.2.0 m.stands.is h.2.1), h.2.2, h.1))
+manifest_at t registry p d (BadManifest text Missing) ok h = absurd (h.2 ok.read.bytes ok.read.stands.is)
+manifest_at t registry p d (BadManifest text NotJson) ok h =
+    let m = ok.read in
+    absurd (h.2.2 d (subst (λ b. IsObjectText b d) (file_once (t p) m.bytes h.2.0 m.stands.is h.2.1.is) m.text))
+manifest_at t registry p d (BadManifest text (BadField f k)) ok h =
+    let m = ok.read in
+    let one = same_data m.bytes h.2.0 d h.2.1 (file_once (t p) m.bytes h.2.0 m.stands.is h.2.2.is) m.text h.2.3 in
+    let clash : first_wrong h.2.1 ≡ None = subst (λ e. first_wrong e ≡ None) one m.right in
+    absurd (cc (clash, h.2.4))
+manifest_at t registry p d (NotYet key) ok h =
+    let m = ok.read in
+    let n = h.1.1 in
+    let one = same_data m.bytes n.bytes d h.1.0 (file_once (t p) m.bytes n.bytes m.stands.is n.stands.is) m.text n.text in
+    let clash : project_later h.1.0 ≡ None = subst (λ e. project_later e ≡ None) one ok.built in
+    absurd (cc (clash, h.1.2))
+manifest_at t registry p d s ok h = absurd h
+
+manifest_law : Excludes manifest AreTold
+manifest_law p w own s told ok h =
+    manifest_at told.tree w.trees.registry p ok.value s (subst (λ (o : Option Tree). IsProjectManifest o p ok.value) told.project ok.manifest)
+    (subst (λ (o : Option Tree). NoManifest p (record { trees = record { project = o; registry = w.trees.registry } }) s) told.project h)
+
+reached_law : Excludes reached AreTold
+reached_law own w met RegistryFault told ok h = tt
+reached_law own w met s told ok h =
+    absurd (reached_passed told.packages own met h.0 (subst (λ (o : Option Tree). IsReached o own met) told.registry ok) (subst (λ (o : Option Tree). IsStopped own o h.0) told.registry h.2))
+
+listed_law : Excludes listed AreTold
+listed_law k w packages RegistryFault told ok h = tt
+listed_law k w packages s told ok h =
+    absurd (listed_passed told.packages k.project.own k.met packages h.0 (subst (λ (o : Option Tree). ArePackages o k.project.own k.met packages) told.registry ok) (subst (λ (o : Option Tree). IsFirstRefused k.met o h.0) told.registry h.2))
+
+-- a tree with nothing in it, since the build's paths are the same whatever the registry has
+nothing : Tree
+nothing q = None
+
+planned_law : Excludes planned AreTold
+planned_law k w plan (Limit PathLength n) told ok h =
+    let l = h nothing in
+    absurd (omega (arith, ok.fits nothing l.path l.entry l.built, l.size_is, l.long))
+planned_law k w plan s told ok h = absurd h
+
+pub order_law : OrderLaw
+order_law = record { words = words_law; standing = stands_law; manifest = manifest_law; reached = reached_law; listed = listed_law; planned = planned_law }

@@ -1,0 +1,86 @@
+-- The points of an install in their order.
+use Rattle.std.specs.Prelude.{◌∷◌}
+use Rattle.pn_text.specs.Path.{Path}
+use Rattle.pn_cmd.specs.declared.status.Status.{Status}
+use Rattle.pn_cmd.specs.World.{Trees, Shown, Inputs}
+use Rattle.pn_cmd.specs.Points.{Point, then, step}
+use Rattle.pn_cmd.specs.Names.{workspace_name, package_name, lock_name, modules_path}
+use Rattle.pn_cmd.specs.Known.{Project, Graph, Sources, Build, project_of}
+use Rattle.pn_cmd.specs.Words.{words}
+use Rattle.pn_cmd.specs.Standing.{standing}
+use Rattle.pn_cmd.specs.Manifests.{manifest}
+use Rattle.pn_cmd.specs.Graph.{reached}
+use Rattle.pn_cmd.specs.Packages.{listed}
+use Rattle.pn_cmd.specs.Plans.{planned}
+
+-- each point where it stands: what it asks for, and what it adds to what is known
+abbrev pub words_at : Point Inputs Path
+words_at = step (λ (i : Inputs). i.words) (λ i u. i.place) words
+
+abbrev pub workspace_at : Point Path Path
+workspace_at = step (λ p. workspace_name ∷ p) (λ p u. p) standing
+
+abbrev pub manifest_at : Point Path Project
+manifest_at = step (λ p. package_name ∷ p) (λ p own. project_of p own) manifest
+
+abbrev pub lock_at : Point Project Project
+lock_at = step (λ (k : Project). lock_name ∷ k.place) (λ k u. k) standing
+
+abbrev pub reached_at : Point Project Graph
+reached_at = step (λ (k : Project). k.own) (λ k met. record { project = k; met = met }) reached
+
+abbrev pub modules_at : Point Graph Graph
+modules_at = step (λ (k : Graph). modules_path k.project.place) (λ k u. k) standing
+
+abbrev pub listed_at : Point Graph Sources
+listed_at = step (λ (k : Graph). k) (λ k packages. record { graph = k; packages = packages }) listed
+
+abbrev pub planned_at : Point Sources Build
+planned_at = step (λ (k : Sources). k) (λ k plan. record { sources = k; plan = plan }) planned
+
+-- from the packages that are reached on
+abbrev pub tree : Point Graph Build
+tree = then modules_at (then listed_at planned_at)
+
+-- from the manifest on
+abbrev pub goal : Point Project Build
+goal = then lock_at (then reached_at tree)
+
+-- All points before anything is written: the words, no `pnpm-workspace.yaml`, the manifest, no `pnpm-lock.yaml`, the packages
+-- that are reached, no `node_modules`, their files, and the tree.
+abbrev pub install : Point Inputs Build
+install = then words_at (then workspace_at (then manifest_at goal))
+
+-- the points up to one of them
+abbrev pub to_workspace : Point Inputs Path
+to_workspace = then words_at workspace_at
+
+abbrev pub to_manifest : Point Inputs Project
+to_manifest = then to_workspace manifest_at
+
+abbrev pub to_lock : Point Inputs Project
+to_lock = then to_manifest lock_at
+
+abbrev pub to_reached : Point Inputs Graph
+to_reached = then to_lock reached_at
+
+abbrev pub to_modules : Point Inputs Graph
+to_modules = then to_reached modules_at
+
+abbrev pub to_listed : Point Inputs Sources
+to_listed = then to_modules listed_at
+
+-- this is so of what is known after these points
+abbrev pub After : {X : Type 0} → Point Inputs X → Inputs → Trees → (X → Type 0) → Type 0
+After p i t C = (k : _) × p.Finds i t k × C k
+
+-- At which point the cause of a refusal is, with what is known there.
+pub data StandsAt (i : Inputs) (w : Shown) (s : Status) : Type 0 where
+  at_words : words_at.Cause i w s → StandsAt i w s
+  at_workspace : After words_at i w.trees (λ k. workspace_at.Cause k w s) → StandsAt i w s
+  at_manifest : After to_workspace i w.trees (λ k. manifest_at.Cause k w s) → StandsAt i w s
+  at_lock : After to_manifest i w.trees (λ k. lock_at.Cause k w s) → StandsAt i w s
+  at_reached : After to_lock i w.trees (λ k. reached_at.Cause k w s) → StandsAt i w s
+  at_modules : After to_reached i w.trees (λ k. modules_at.Cause k w s) → StandsAt i w s
+  at_listed : After to_modules i w.trees (λ k. listed_at.Cause k w s) → StandsAt i w s
+  at_planned : After to_listed i w.trees (λ k. planned_at.Cause k w s) → StandsAt i w s

@@ -1,0 +1,76 @@
+-- How a run ends.
+use Rattle.std.specs.Prelude.{◌≡◌, ◌+◌, List, Option, None, Some, IfSome, MatchOption, false}
+use Rattle.pn_text.specs.declared.limits.TheConstants.{FILE_LIMIT}
+use Rattle.pn_text.specs.Path.{Path}
+use Rattle.pn_fs.specs.Tree.{Tree, IsTree}
+use Rattle.pn_node.specs.Plan.{IsBuilt}
+use Rattle.pn_manifest.specs.Pairs.{Pair}
+use Rattle.pn_plan.specs.Drawing.{is_within}
+use Rattle.pn_plan.specs.Writes.{DiffersOnly}
+use Rattle.pn_layout.specs.declared.packages.Package.{Package}
+use Rattle.pn_layout.specs.Layout.{plan_of}
+use Rattle.pn_cmd.specs.declared.status.Which.TheVariants.{File}
+use Rattle.pn_cmd.specs.declared.status.Status.{Status}
+use Rattle.pn_cmd.specs.declared.status.Status.TheVariants.{Done, Limit, ProjectFault, RegistryFault, SinkFault}
+use Rattle.pn_cmd.specs.World.{World, Shown, Inputs, trees_of}
+use Rattle.pn_cmd.specs.Points.{Refuses}
+use Rattle.pn_cmd.specs.Names.{modules_path}
+use Rattle.pn_cmd.specs.Known.{Build}
+use Rattle.pn_cmd.specs.Chain.{install}
+use Rattle.pn_cmd.specs.Lookup.{LooksUp}
+use Rattle.pn_cmd.specs.Reports.{report, TookAll, TookSome}
+
+-- The writing stops for a fault of the project or of the registry, or where a file of a registry that tells nothing went
+-- on past the limit.
+abbrev pub Stops : Shown → Status → Type 0
+Stops w ProjectFault = Unit {0}
+Stops w RegistryFault = Unit {0}
+Stops w (Limit File n) = (n ≡ FILE_LIMIT + 1) × (w.trees.registry ≡ None)
+Stops w s = ⊥
+
+-- The report is refused for a fault of the output.
+abbrev pub Unreported : Shown → Status → Type 0
+Unreported w SinkFault = Unit {0}
+Unreported w s = ⊥
+
+-- Nothing was written.
+pub record Untouched (old new : World) : Type 0 where
+  pub project : new.project.tree ≡ old.project.tree
+  pub registry : new.registry.tree ≡ old.registry.tree
+  pub out : new.out ≡ old.out
+
+-- Entries at and below the managed folder may differ, and nothing else does.
+pub record HalfWritten (i : Inputs) (old new : World) : Type 0 where
+  pub project : DiffersOnly (is_within (modules_path i.place)) old.project.tree new.project.tree
+  pub registry : new.registry.tree ≡ old.registry.tree
+  pub out : new.out ≡ old.out
+
+-- At and below the managed folder the tree has exactly the build, with the registry's bytes, and elsewhere what it had; each
+-- package finds what it depends on.
+pub record IsInstalled (registry : Option Tree) (place : Path) (own : List Pair) (packages : List Package) (t u : Tree) : Type 0 where
+  pub tree : IsTree u
+  pub built : IfSome registry (λ r. IsBuilt u (plan_of r (modules_path place) own packages))
+  pub lookup : IfSome registry (λ r. LooksUp r u place own)
+  pub others : (q : Path) → is_within (modules_path place) q ≡ false → u q ≡ t q
+
+-- a tree that was told is told, and installed
+abbrev pub Installs : Option Tree → Path → List Pair → List Package → Option Tree → Option Tree → Type 0
+Installs registry place own packages old new = MatchOption old (new ≡ None) (λ t. (u : Tree) × (new ≡ Some u) × IsInstalled registry place own packages t u)
+
+-- The project is installed.
+pub record Written (i : Inputs) (b : Build) (old new : World) : Type 0 where
+  pub project : Installs old.registry.tree i.place b.sources.graph.project.own b.sources.packages old.project.tree new.project.tree
+  pub registry : new.registry.tree ≡ old.registry.tree
+
+-- What is there when a run is done: the points are passed, the project is installed, and the output took the report.
+pub record IsDone (i : Inputs) (b : Build) (old new : World) : Type 0 where
+  pub passed : install.Finds i (trees_of old) b
+  pub written : Written i b old new
+  pub told : TookAll (report b.sources.packages) old.out new.out
+
+-- How a run ends: with the first refusal, before anything is written; in the writing; at the report; or done.
+pub data Ends (i : Inputs) (old new : World) : Status → Type 0 where
+  refused : (s : Status) → Refuses (install.Cause i) old new s → Untouched old new → Ends i old new s
+  stopped : (s : Status) (b : Build) → install.Finds i (trees_of old) b → Refuses Stops old new s → HalfWritten i old new → Ends i old new s
+  unreported : (s : Status) (b : Build) → install.Finds i (trees_of old) b → Refuses Unreported old new s → Written i b old new → TookSome (report b.sources.packages) old.out new.out → Ends i old new s
+  done : (b : Build) → IsDone i b old new → Ends i old new Done

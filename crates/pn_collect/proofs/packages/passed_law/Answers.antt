@@ -1,5 +1,0 @@
-use Rattle.pn_collect.proofs.Passed.{passed}
-use Rattle.pn_collect.proofs.packages.passed_law.Goals as goal
-
-pub returns : goal.returns
-returns c = passed

@@ -1,5 +1,0 @@
-use Rattle.pn_digest.proofs.IntegrityTexts.{one_digest}
-use Rattle.pn_digest.proofs.integrity.integrity_law.Goals as goal
-
-pub returns : goal.returns
-returns c a b da db same = one_digest a b da db (cc same)

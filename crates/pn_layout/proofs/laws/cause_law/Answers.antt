@@ -1,0 +1,5 @@
+use Rattle.pn_layout.proofs.RefusedLemmas.{cause}
+use Rattle.pn_layout.proofs.laws.cause_law.Goals as goal
+
+pub returns : goal.returns
+returns c = cause

@@ -1,0 +1,27 @@
+use Rattle.pn_storecore.specs.declared.step.Place.TheVariants.{Files}
+use Rattle.pn_storecore.specs.declared.step.StoreStep.TheVariants.{Read}
+use Rattle.pn_memstore.proofs.puts.list.Goals as goal
+
+pub returns-in_err-files-clause-left : goal.returns-in_err-files-clause-left
+returns-in_err-files-clause-left g c k files held =
+    let one = g.D.StoreDisk.seen c.args.disk.now in
+    let two = g.D.StoreDisk.seen c.list.new.self in
+    c.leaves_law.ensures one two Read k files (c.did_law.ensures.list one two Files c.list.result c.list.ensures.kept c.list.ensures.step) tt held
+
+pub returns-in_err-files-clause-grew : goal.returns-in_err-files-clause-grew
+returns-in_err-files-clause-grew g c =
+    let one = g.D.StoreDisk.seen c.args.disk.now in
+    let two = g.D.StoreDisk.seen c.list.new.self in
+    c.grew_law.ensures.call one two Read (λ j told. tt) (c.did_law.ensures.list one two Files c.list.result c.list.ensures.kept c.list.ensures.step)
+
+pub returns-clause-left : goal.returns-clause-left
+returns-clause-left g c k files held =
+    let one = g.D.StoreDisk.seen c.args.disk.now in
+    let two = g.D.StoreDisk.seen c.list.new.self in
+    c.leaves_law.ensures one two Read k files (c.did_law.ensures.list one two Files c.list.result c.list.ensures.kept c.list.ensures.step) tt held
+
+pub returns-clause-grew : goal.returns-clause-grew
+returns-clause-grew g c =
+    let one = g.D.StoreDisk.seen c.args.disk.now in
+    let two = g.D.StoreDisk.seen c.list.new.self in
+    c.grew_law.ensures.call one two Read (λ j told. tt) (c.did_law.ensures.list one two Files c.list.result c.list.ensures.kept c.list.ensures.step)

@@ -1,0 +1,36 @@
+-- What the stores in memory show.
+use Rattle.std.specs.Prelude.{◌≡◌, [], ◌∷◌, ◌++◌, Some, Result, MatchResult}
+use Rattle.pn_text.specs.Causes.{is_listed}
+use Rattle.pn_text.specs.declared.fault.DevFault.{DevFault}
+use Rattle.pn_text.specs.declared.fault.DevFault.TheVariants.{Memory}
+use Rattle.pn_storecore.specs.declared.step.StoreStep.{StoreStep}
+use Rattle.pn_memstore.specs.declared.sure.SureStore.{SureStore}
+use Rattle.pn_memstore.specs.declared.mem.MemStore.{MemStore}
+use Rattle.pn_storecore.specs.Steps.{Journal}
+use Rattle.pn_storecore.specs.Seen.{Seen}
+use Rattle.pn_memstore.specs.Script.{Script, Goes}
+use Rattle.pn_memstore.specs.Schedule.{to_come}
+
+-- the steps on a store
+abbrev pub sure_journal : SureStore → Journal
+sure_journal s = s.ledger.journal.items
+
+abbrev pub sure_seen : SureStore → Seen
+sure_seen s = record { journal = Some (sure_journal s); me = s.me; faults = 0 }
+
+abbrev pub mem_journal : MemStore → Journal
+mem_journal s = sure_journal s.store
+
+abbrev pub mem_seen : MemStore → Seen
+mem_seen s = record { journal = Some (mem_journal s); me = s.store.me; faults = s.turns.faults }
+
+abbrev pub script_of : MemStore → Script
+script_of s = record { others = to_come s.schedule; fails = is_listed s.turns.fail.items; next = s.turns.calls; faults = s.turns.faults }
+
+-- a call before which no other installer made a step; where memory was wanted its own step was not made
+abbrev pub Alone : {T : Type 0} → SureStore → StoreStep → SureStore → Result T DevFault → Type 0
+Alone old step new result = MatchResult result (λ v. sure_journal new ≡ sure_journal old ++ (old.me, step) ∷ []) (λ e. (e ≡ Memory) × (sure_journal new ≡ sure_journal old))
+
+-- a call of a store in memory went by its script, and its own step is this one
+abbrev pub GoesBy : {T : Type 0} → MemStore → StoreStep → MemStore → Result T DevFault → Type 0
+GoesBy old step new result = Goes old.store.me (script_of old) (mem_journal old) ((old.store.me, step) ∷ []) (mem_journal new) (script_of new) result

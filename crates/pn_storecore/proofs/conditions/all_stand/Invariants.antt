@@ -1,8 +1,0 @@
-use Rattle.std.proofs.Common.{ℕ, ◌<◌, slice_index_or}
-use Rattle.pn_digest.specs.Listing.{Entry}
-use Rattle.pn_storecore.specs.World.{Stands}
-use Rattle.pn_storecore.specs.Kept.{objects_in}
-use Rattle.pn_storecore.proofs.conditions.all_stand.Given as goal
-
-abbrev pub invariant-loop-digest : goal.invariant-loop-digest
-invariant-loop-digest l = (k : ℕ) (d : Entry) → k < l.digest-index → Stands (objects_in l.files) (slice_index_or l.listing k d).1

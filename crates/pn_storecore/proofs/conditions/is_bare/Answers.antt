@@ -1,5 +1,0 @@
-use Rattle.pn_storecore.proofs.KeyLists.{bare}
-use Rattle.pn_storecore.proofs.conditions.is_bare.Goals as goal
-
-pub returns-in-Some : goal.returns-in-Some
-returns-in-Some c = bare c.in-Some.folder.now c.args.world.now c.args.k c.is_empty.result c.in-Some.ensures.value c.is_empty.ensures

@@ -1,7 +1,0 @@
-use Rattle.pn_storecore.proofs.KeyLists.{addresses}
-use Rattle.pn_storecore.proofs.objects.ObjectMap.addresses.Goals as goal
-
-pub returns : goal.returns
-returns c =
-    let keys = c.keys-at-items.ensures in
-    addresses c.args.self.now c.loop-at.all.items c.loop-at.at-iterator c.keys-at-items.result keys.rest keys.ordered keys.has c.loop-at.invariant c.in-None.ensures.steps.0

@@ -1,7 +1,0 @@
-use Rattle.std.proofs.Common.{None}
-use Rattle.pn_storecore.specs.Kept.{objects_in}
-use Rattle.pn_storecore.proofs.Addresses.{changed}
-use Rattle.pn_storecore.proofs.objects.ObjectMap.remove.Goals as goal
-
-pub returns : goal.returns
-returns c = let o = objects_in c.args.self.now in changed o.shards c.args.self.now.bytes c.remove.new.self c.args.at.now None c.remove.ensures.updates

@@ -1,5 +1,0 @@
-use Rattle.pn_storecore.proofs.Schedules.{passed}
-use Rattle.pn_storecore.proofs.schedule.Schedule.pass.Goals as goal
-
-pub returns : goal.returns
-returns c = passed c.args.self.now.entries.items c.args.self.now.gone

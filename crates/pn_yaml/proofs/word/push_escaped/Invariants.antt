@@ -1,6 +1,0 @@
-use Rattle.std.proofs.Common.{◌≡◌, ◌++◌, drop}
-use Rattle.pn_yaml.specs.Words.{escaped}
-use Rattle.pn_yaml.proofs.word.push_escaped.Given as goal
-
-abbrev pub invariant-loop-b : goal.invariant-loop-b
-invariant-loop-b l = l.out.items ++ escaped (drop l.b-index l.text) ≡ l.initial.out.items ++ escaped l.text

@@ -1,0 +1,15 @@
+pub mod PrintedNodes
+pub mod PlainRuns
+pub mod ByteTests
+pub mod QuotedLaw
+pub mod PlainLaw
+pub mod WordLaw
+pub mod FlowLaw
+pub mod PrintedBytes
+pub mod PrintedLines
+pub mod PrintedRows
+pub mod BlockLaw
+pub mod ValueLaw
+pub mod PrintedUtf8
+pub mod ReadBack
+pub mod Stable
