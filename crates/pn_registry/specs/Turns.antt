@@ -6,7 +6,7 @@ use Rattle.pn_fs.specs.Tree.{Entry, folder, file, link, Tree}
 use Rattle.pn_fs.specs.Seen.{Seen, GaveAtMost}
 use Rattle.pn_fs.specs.Calls.{IsListing}
 use Rattle.pn_registry.specs.Files.{File}
-use Rattle.pn_registry.specs.Below.{HasMany}
+use Rattle.pn_registry.specs.Below.{IsWithin, HasMany}
 use Rattle.pn_registry.specs.declared.walk.WalkFault.{WalkFault}
 use Rattle.pn_registry.specs.declared.walk.WalkFault.TheVariants.{Entries, Fault, Memory}
 
@@ -73,12 +73,12 @@ WalkRefused old new at limit Entries = IfSome old.tree (λ t. HasMany t at limit
 WalkRefused old new at limit Fault = Rose old.faults new.faults
 WalkRefused old new at limit Memory = Unit {0}
 
--- the names of a folder, or none
-abbrev pub MayList : Tree → List (List ℕ) → Type 0
-MayList t names = (names ≡ []) ⊎ ((p : Path) × IsListing t p names)
+-- the names of the folder itself or of one below it, or none
+abbrev pub MayList : Tree → Path → List (List ℕ) → Type 0
+MayList t at names = (names ≡ []) ⊎ ((p : Path) × IsWithin at p × IsListing t p names)
 
--- Calls gave at most so many names, those of one folder aside, and no bytes of files.
-pub record GaveListings (t : Tree) (most : ℕ) (old new : Seen) : Type 0 where
+-- Calls gave at most so many names, those of one folder at or below this one aside, and no bytes of files.
+pub record GaveListings (t : Tree) (at : Path) (most : ℕ) (old new : Seen) : Type 0 where
   pub last : List (List ℕ)
-  pub listed : MayList t last
+  pub listed : MayList t at last
   pub gave : GaveAtMost old 0 (most + length last) new

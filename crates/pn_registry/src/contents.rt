@@ -3,7 +3,7 @@ ghost use Rattle.std.specs.Prelude.{◌≡◌, ◌≢◌, [], OnOk, IfOk, IfErr,
 ghost use Rattle.std.specs.Option.{ForSome};
 ghost use Rattle.std.specs.List.{All};
 ghost use Rattle.pn_fs.specs.Tree.{folder};
-ghost use Rattle.pn_fs.specs.Seen.{Keeps};
+ghost use Rattle.pn_fs.specs.Seen.{Keeps, GaveAtMost};
 ghost use Rattle.pn_registry.specs.Turns.{GaveListings};
 ghost use Rattle.pn_text.specs.declared.limits.TheConstants.{ENTRY_LIMIT};
 ghost use Rattle.pn_registry.specs.Places.{package_folder};
@@ -48,7 +48,8 @@ pub fn files<R: ReadFs>(alloc: Global, registry: &mut R, id: &PkgId) -> Result<F
     ensures apart { IfOk result AreApart }
     ensures short { IfOk result (All (IsShortBelow (package_folder id.now))) }
     ensures named { IfErr result (NamesShort (package_folder id.now)) }
-    ensures gave { IfSome (R.seen registry.old).tree (λ t. GaveListings t ENTRY_LIMIT (R.seen registry.old) (R.seen registry.new)) }
+    ensures gave_few { IfSome (R.seen registry.old).tree (λ t. OnOk result (GaveAtMost (R.seen registry.old) 0 ENTRY_LIMIT (R.seen registry.new))) }
+    ensures gave { IfSome (R.seen registry.old).tree (λ t. GaveListings t (package_folder id.now) ENTRY_LIMIT (R.seen registry.old) (R.seen registry.new)) }
     ensures kept { Keeps (R.seen registry.old) (R.seen registry.new) }
     ensures fault { IfErr result (FilesRefused (package_folder id.now) (R.seen registry.old) (R.seen registry.new)) }
 {
@@ -68,7 +69,8 @@ fn files_at<R: ReadFs>(alloc: Global, registry: &mut R, at: &AbsPath) -> Result<
     ensures apart { IfOk result AreApart }
     ensures short { IfOk result (All (IsShortBelow at.now)) }
     ensures named { IfErr result (NamesShort at.now) }
-    ensures gave { IfSome (R.seen registry.old).tree (λ t. GaveListings t ENTRY_LIMIT (R.seen registry.old) (R.seen registry.new)) }
+    ensures gave_few { IfSome (R.seen registry.old).tree (λ t. OnOk result (GaveAtMost (R.seen registry.old) 0 ENTRY_LIMIT (R.seen registry.new))) }
+    ensures gave { IfSome (R.seen registry.old).tree (λ t. GaveListings t at.now ENTRY_LIMIT (R.seen registry.old) (R.seen registry.new)) }
     ensures kept { Keeps (R.seen registry.old) (R.seen registry.new) }
     ensures fault { IfErr result (FilesRefused at.now (R.seen registry.old) (R.seen registry.new)) }
 {
@@ -88,7 +90,8 @@ fn all_files<R: ReadFs>(alloc: Global, registry: &mut R, at: &AbsPath) -> Result
     ensures few { IfSome (R.seen registry.old).tree (λ t. OnOk result (HasFew t at.now entry_limit)) }
     ensures apart { IfOk result AreApart }
     ensures short { IfOk result (All (IsShortBelow at.now)) }
-    ensures gave { IfSome (R.seen registry.old).tree (λ t. GaveListings t ENTRY_LIMIT (R.seen registry.old) (R.seen registry.new)) }
+    ensures gave_few { IfSome (R.seen registry.old).tree (λ t. OnOk result (GaveAtMost (R.seen registry.old) 0 ENTRY_LIMIT (R.seen registry.new))) }
+    ensures gave { IfSome (R.seen registry.old).tree (λ t. GaveListings t at.now ENTRY_LIMIT (R.seen registry.old) (R.seen registry.new)) }
     ensures kept { Keeps (R.seen registry.old) (R.seen registry.new) }
     ensures fault { IfErr result (NotWalked at.now (R.seen registry.old) (R.seen registry.new)) }
 {

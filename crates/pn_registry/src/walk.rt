@@ -43,7 +43,7 @@ pub fn walk<R: ReadFs>(
     ensures few { IfSome (R.seen registry.old).tree (λ t. OnOk result (HasFew t at.now limit)) }
     ensures short { IfOk result (λ v. All (IsShortFile at.now) v.items) }
     ensures gave_few { IfSome (R.seen registry.old).tree (λ t. OnOk result (GaveAtMost (R.seen registry.old) 0 limit (R.seen registry.new))) }
-    ensures gave { IfSome (R.seen registry.old).tree (λ t. GaveListings t limit (R.seen registry.old) (R.seen registry.new)) }
+    ensures gave { IfSome (R.seen registry.old).tree (λ t. GaveListings t at.now limit (R.seen registry.old) (R.seen registry.new)) }
     ensures kept { Keeps (R.seen registry.old) (R.seen registry.new) }
     ensures fault { IfErr result (WalkRefused (R.seen registry.old) (R.seen registry.new) at.now limit) }
 {
@@ -83,7 +83,7 @@ fn list_folder<R: ReadFs>(
     ensures all_within { OnOk result (AllWithin at.now todo.new.items) }
     ensures short { OnOk result (All (IsShortFile at.now) found.new.items) }
     ensures gave_names { IfSome (R.seen registry.old).tree (λ t. IfOk result (λ n. GaveAtMost (R.seen registry.old) 0 n (R.seen registry.new))) }
-    ensures gave { IfSome (R.seen registry.old).tree (λ t. GaveListings t 0 (R.seen registry.old) (R.seen registry.new)) }
+    ensures gave { IfSome (R.seen registry.old).tree (λ t. GaveListings t at.now 0 (R.seen registry.old) (R.seen registry.new)) }
     ensures kept { Keeps (R.seen registry.old) (R.seen registry.new) }
     ensures fault { IfErr result (ListRefused (R.seen registry.old) (R.seen registry.new) parent.now room) }
 {
