@@ -98,7 +98,8 @@ class Progress:
 
     def tell(self):
         going = [crate for crate in sorted(self.crates) if crate not in self.ended and self.is_going(crate)]
-        now = f"; now {', '.join(going)}" if going else ""
+        first = "" if self.ended else "; reading the sources"
+        now = f"; now {', '.join(going)}" if going else first
         seconds = int(time.time() - self.began)
         so_far = f"{len(self.ended)} of {len(self.crates)} crates proved"
         tell(f"{self.name}: {so_far}{now} ({seconds // 60} min {seconds % 60:02} s)")
@@ -112,6 +113,7 @@ def run(words, name, log, hear=lambda line: None):
         for line in started.stdout:
             log.write(line)
             hear(line)
+    log.write(f"{' '.join(words)} ended with {started.returncode}\n")
     return started.returncode
 
 
