@@ -15,7 +15,7 @@ use std::alloc::Global;
 
 /// Runs the command that the words are, for the project in the folder `place`, which is its own real
 /// path. The registry's folder is `/` of `registry`. The report goes to `out`, a refusal's text to
-/// `err`. A fault of `err` changes no status.
+/// `err`. No status tells of a fault of `err`.
 pub fn run<P: Fs, R: ReadFs, O: Sink, E: Sink>(
     alloc: Global,
     words: &[String],

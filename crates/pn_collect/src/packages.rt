@@ -20,8 +20,8 @@ use pn_manifest::Manifest;
 use pn_text::Memory;
 use std::alloc::Global;
 
-/// Finds the packages of an install with their files, in byte order of the texts `name@version`. The registry's
-/// files are only listed, not read. The first package that has no files is the refusal: see `CollectFault`.
+/// Finds the packages of an install with their files, in byte order of the texts `name@version`. The first package that
+/// has no files is the refusal: see `CollectFault`.
 pub fn collect<R: ReadFs>(
     alloc: Global,
     registry: &mut R,
