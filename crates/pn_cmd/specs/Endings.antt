@@ -33,10 +33,11 @@ abbrev pub Unreported : Shown → Status → Type 0
 Unreported w SinkFault = Unit {0}
 Unreported w s = ⊥
 
--- Nothing was written.
+-- Nothing was written, and no call that writes was made.
 pub record Untouched (old new : World) : Type 0 where
   pub project : new.project.tree ≡ old.project.tree
   pub registry : new.registry.tree ≡ old.registry.tree
+  pub touched : new.project.touched ≡ old.project.touched
   pub out : new.out ≡ old.out
 
 -- Entries at and below the managed folder may differ, and nothing else does.

@@ -8,10 +8,10 @@ use Rattle.pn_cmd.proofs.EndingLemmas.{ready_writable, ready_copyable, stopped_b
 use Rattle.pn_cmd.proofs.top.install.Goals as goal
 
 pub returns-in-Err : goal.returns-in-Err
-returns-in-Err g c = refused c.in-Err.status (c.in-Err.ensures.refused (g.O.Sink.seen c.args.out.now)) (record { project = c.in-Err.ensures.project.tree; registry = c.in-Err.ensures.registry.tree; out = refl })
+returns-in-Err g c = refused c.in-Err.status (c.in-Err.ensures.refused (g.O.Sink.seen c.args.out.now)) (record { project = c.in-Err.ensures.project.tree; registry = c.in-Err.ensures.registry.tree; touched = c.in-Err.ensures.project.touched; out = refl })
 
 pub returns-in-Err-report : goal.returns-in-Err-report
-returns-in-Err-report g c = refused _ tt (record { project = c.in-Ok.ensures.project.tree; registry = c.in-Ok.ensures.registry.tree; out = refl })
+returns-in-Err-report g c = refused _ tt (record { project = c.in-Ok.ensures.project.tree; registry = c.in-Ok.ensures.registry.tree; touched = c.in-Ok.ensures.project.touched; out = refl })
 
 pub write-requires-clause-writable : goal.write-requires-clause-writable
 write-requires-clause-writable g c =
