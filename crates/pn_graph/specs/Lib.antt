@@ -1,0 +1,6 @@
+pub mod Graphs
+pub mod PeerRanges
+pub mod Lookups
+pub mod Reaches
+pub mod ReachLaw
+pub mod Founds
