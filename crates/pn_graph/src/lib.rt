@@ -7,6 +7,7 @@
 #![tactic(auto)]
 
 mod find;
+mod found;
 mod links;
 mod lookups;
 mod peer;
