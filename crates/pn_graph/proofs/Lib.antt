@@ -1,1 +1,4 @@
 pub mod FoundLemmas
+pub mod ReachLemmas
+pub mod PlaceLemmas
+pub mod RangeLemmas

@@ -8,11 +8,15 @@
 
 mod find;
 mod found;
+mod laws;
 mod links;
 mod lookups;
 mod peer;
 mod plain;
+mod reached;
 
+pub use laws::reach_law;
 pub use links::{At, Auto, Autos, Dep, Deps, Package, Packages, Project, Projects};
 pub use peer::{Peer, Peers};
 pub use plain::Plain;
+pub use reached::reach;

@@ -1,4 +1,4 @@
-use Rattle.std.proofs.Common.{◌≡◌, ◌<◌, ℕ, ◌∙◌, sym, subst, length}
+use Rattle.std.proofs.Common.{◌<◌, ℕ, ◌∙◌, sym, subst}
 use Rattle.pn_graph.proofs.FoundLemmas.{adds_more, leads_by}
 use Rattle.pn_graph.proofs.found.Found.meet_deps.Goals as goal
 

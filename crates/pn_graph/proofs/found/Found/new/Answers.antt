@@ -1,4 +1,4 @@
-use Rattle.std.proofs.Common.{rules, ◌≡◌, false, get_or}
+use Rattle.std.proofs.Common.{rules}
 use Rattle.pn_graph.proofs.FoundLemmas.{none_marked}
 use Rattle.pn_graph.proofs.found.Found.new.Goals as goal
 
