@@ -4,3 +4,4 @@ pub mod Lookups
 pub mod Reaches
 pub mod ReachLaw
 pub mod Founds
+pub mod Rows

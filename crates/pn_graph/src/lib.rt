@@ -20,3 +20,6 @@ pub use links::{At, Auto, Autos, Dep, Deps, Package, Packages, Project, Projects
 pub use peer::{Peer, Peers};
 pub use plain::Plain;
 pub use reached::reach;
+
+#[cfg(test)]
+mod tests;
