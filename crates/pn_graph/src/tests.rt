@@ -1,7 +1,7 @@
 // Look-ups in a small graph, and what is reached.
 ghost use Rattle.std.specs.Prelude.{◌≡◌, ◌∷◌, List, [], true, length, IfOk, codes};
 ghost use Rattle.pn_graph.specs.Graphs.{Peer as ThePeer, peer_names, in_range};
-ghost use Rattle.pn_graph.specs.Rows.{on, first_packages, last_packages, projects};
+ghost use Rattle.pn_graph.specs.Rows.{auto, on, package_at, project, first_packages, last_packages, projects};
 
 use crate::{
     At, Auto, Autos, Dep, Deps, Package, Packages, Peer, Peers, Plain, Project, Projects, reach,
@@ -69,41 +69,84 @@ fn package(alloc: Global, id: &str, deps: Deps, peers: Peers) -> Result<Package,
     }
 }
 
-fn projects(alloc: Global) -> Result<Projects, Fail>
-    ensures { IfOk result (λ ps. ps ≡ projects) }
+fn alone(alloc: Global, id: &str) -> Result<Package, Fail>
+    ensures { IfOk result (λ p. p ≡ record { id = id.now; deps = []; peers = [] }) }
+{
+    package(alloc, id, none(alloc), Peers::of(Vec::new(alloc)))
+}
+
+fn with_peer(alloc: Global, id: &str, name: &str) -> Result<Package, Fail>
+    ensures { IfOk result (λ p. (peers : List ThePeer) × (peer_names peers ≡ name.now ∷ []) × (p ≡ record { id = id.now; deps = []; peers = peers })) }
+{
+    let peers = peer(alloc, name)?;
+    package(alloc, id, none(alloc), peers)
+}
+
+fn with_two(alloc: Global, id: &str, a: Dep, b: Dep) -> Result<Package, Fail>
+    ensures { IfOk result (λ p. p ≡ record { id = id.now; deps = a ∷ b ∷ []; peers = [] }) }
+{
+    let deps = both(alloc, a, b)?;
+    package(alloc, id, deps, Peers::of(Vec::new(alloc)))
+}
+
+fn package_a(alloc: Global) -> Result<Package, Fail>
+    ensures { IfOk result (λ p. p ≡ record { id = codes "a@1.0.0"; deps = on (codes "b") (package_at 1) ∷ on (codes "q") (project 1) ∷ []; peers = [] }) }
+{
+    let b = on(alloc, "b", At::Package(PkgIx(1)))?;
+    with_two(alloc, "a@1.0.0", b, on(alloc, "q", Q)?)
+}
+
+fn package_b(alloc: Global) -> Result<Package, Fail>
+    ensures { IfOk result (λ p. p ≡ record { id = codes "b@1.0.0"; deps = on (codes "a") (package_at 0) ∷ on (codes "c") (package_at 2) ∷ []; peers = [] }) }
 {
     let a = on(alloc, "a", At::Package(PkgIx(0)))?;
-    let deps = both(alloc, a, on(alloc, "q", Q)?)?;
-    let root = Project {
-        folder: Text::of(alloc, ".")?,
-        deps,
-        autos: auto(alloc, "p", 3)?,
-    };
-    let p = on(alloc, "p", At::Package(PkgIx(3)))?;
-    let q = Project {
-        folder: Text::of(alloc, "q")?,
-        deps: Deps::of(vec![in alloc; p]?),
-        autos: Autos::of(Vec::new(alloc)),
-    };
-    Ok(Projects::of(vec![in alloc; root, q]?))
+    with_two(alloc, "b@1.0.0", a, on(alloc, "c", At::Package(PkgIx(2)))?)
 }
 
 fn packages(alloc: Global) -> Result<Packages, Fail>
     ensures { IfOk result (λ ps. (peers : List ThePeer) × (peer_names peers ≡ codes "p" ∷ []) × (ps ≡ first_packages (last_packages peers))) }
 {
-    let b = on(alloc, "b", At::Package(PkgIx(1)))?;
-    let of_a = both(alloc, b, on(alloc, "q", Q)?)?;
-    let a = on(alloc, "a", At::Package(PkgIx(0)))?;
-    let of_b = both(alloc, a, on(alloc, "c", At::Package(PkgIx(2)))?)?;
-    let peers = peer(alloc, "p")?;
-    let none_a = Peers::of(Vec::new(alloc));
-    let none_b = Peers::of(Vec::new(alloc));
-    let none_p = Peers::of(Vec::new(alloc));
-    let a = package(alloc, "a@1.0.0", of_a, none_a)?;
-    let b = package(alloc, "b@1.0.0", of_b, none_b)?;
-    let c = package(alloc, "c@1.0.0", none(alloc), peers)?;
-    let p = package(alloc, "p@1.0.0", none(alloc), none_p)?;
+    let a = package_a(alloc)?;
+    let b = package_b(alloc)?;
+    let c = with_peer(alloc, "c@1.0.0", "p")?;
+    let p = alone(alloc, "p@1.0.0")?;
     Ok(Packages::of(vec![in alloc; a, b, c, p]?))
+}
+
+fn folder(alloc: Global, text: &str, deps: Deps, autos: Autos) -> Result<Project, Fail>
+    ensures { IfOk result (λ p. p ≡ record { folder = text.now; deps = deps; autos = autos }) }
+{
+    let folder = Text::of(alloc, text)?;
+    Ok(Project {
+        folder,
+        deps,
+        autos,
+    })
+}
+
+fn root(alloc: Global) -> Result<Project, Fail>
+    ensures { IfOk result (λ p. p ≡ record { folder = codes "."; deps = on (codes "a") (package_at 0) ∷ on (codes "q") (project 1) ∷ []; autos = auto (codes "p") 3 ∷ [] }) }
+{
+    let a = on(alloc, "a", At::Package(PkgIx(0)))?;
+    let deps = both(alloc, a, on(alloc, "q", Q)?)?;
+    let autos = auto(alloc, "p", 3)?;
+    folder(alloc, ".", deps, autos)
+}
+
+fn project_q(alloc: Global) -> Result<Project, Fail>
+    ensures { IfOk result (λ p. p ≡ record { folder = codes "q"; deps = on (codes "p") (package_at 3) ∷ []; autos = [] }) }
+{
+    let p = on(alloc, "p", At::Package(PkgIx(3)))?;
+    let deps = Deps::of(vec![in alloc; p]?);
+    folder(alloc, "q", deps, Autos::of(Vec::new(alloc)))
+}
+
+fn projects(alloc: Global) -> Result<Projects, Fail>
+    ensures { IfOk result (λ ps. ps ≡ projects) }
+{
+    let root = root(alloc)?;
+    let q = project_q(alloc)?;
+    Ok(Projects::of(vec![in alloc; root, q]?))
 }
 
 fn small(alloc: Global) -> Result<Plain, Fail>
