@@ -2,3 +2,4 @@ pub mod FoundLemmas
 pub mod ReachLemmas
 pub mod PlaceLemmas
 pub mod RangeLemmas
+pub mod PassLemmas

@@ -6,6 +6,7 @@
 //! dependencies lead to from a package, projects left out.
 #![tactic(auto)]
 
+mod explored;
 mod find;
 mod found;
 mod laws;
