@@ -3,3 +3,4 @@ pub mod ReachLemmas
 pub mod PlaceLemmas
 pub mod RangeLemmas
 pub mod PassLemmas
+pub mod FreeLemmas

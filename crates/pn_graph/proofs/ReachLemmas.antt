@@ -11,7 +11,7 @@ use Rattle.pn_graph.specs.ReachLaw.{IsClosed, ReachLaw}
 use Rattle.pn_graph.specs.Lookups.{package_deps}
 use Rattle.pn_graph.specs.Founds.{AddsAll, IsMarked, IsExplored, AreReached}
 
-onward : (packages : List Package) (i j k : ℕ) → Reaches packages i j → Reaches packages j k → Reaches packages i k
+pub onward : (packages : List Package) (i j k : ℕ) → Reaches packages i j → Reaches packages j k → Reaches packages i k
 onward packages i j _ a itself = a
 onward packages i j _ a (through m k b l) = through m k (onward packages i j m a b) l
 
@@ -79,7 +79,7 @@ all_explored packages from at order e h = record { sound = e.sound; complete = �
 no_mark : (k : ℕ) → get_or [] k false ≡ true → ⊥
 no_mark k e = (cc)
 
-marked_within : (seen : List Bool) (k : ℕ) → get_or seen k false ≡ true → k < length seen
+pub marked_within : (seen : List Bool) (k : ℕ) → get_or seen k false ≡ true → k < length seen
 marked_within [] k e = absurd (no_mark k e)
 marked_within (b ∷ bs) zero e = omega arith
 marked_within (b ∷ bs) (suc k) e = let h = marked_within bs k e in omega arith

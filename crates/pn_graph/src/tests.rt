@@ -191,3 +191,13 @@ fn no_project_is_on_the_way_to_what_is_reached(rt: HostRuntime) -> Result<(), Fa
     assert!(rt; from_c.as_slice() == [PkgIx(2)].as_slice());
     Ok(())
 }
+
+#[test]
+fn a_peer_is_free_in_those_that_depend_on_its_package(rt: HostRuntime) -> Result<(), Fail> {
+    let alloc = rt.alloc();
+    let p = small(alloc)?;
+    let of_a = free_names(alloc, &p, PkgIx(0))?;
+    assert!(rt; of_a.len() == 1 && of_a[0].as_str() == "p");
+    assert!(rt; free_names(alloc, &p, PkgIx(3))?.is_empty());
+    Ok(())
+}
