@@ -1,6 +1,6 @@
 -- Free names, by what is reached past them.
-use Rattle.std.proofs.Common.{◌≡◌, ◌<◌, ◌≤◌, ℕ, ◌+◌, Bool, true, false, List, [], ◌∷◌, ◌++◌, length, take, get_or, map, Option, Some, None, inl, inr, ◌⊎◌, refl, sym, ap, ◌∙◌, subst, arith}
-use Rattle.std.specs.Prelude.{slice_get, option_map, if◌then◌else◌, ◌||◌}
+use Rattle.std.proofs.Common.{◌≡◌, ◌<◌, ◌≤◌, ℕ, ◌+◌, Bool, true, false, List, [], ◌∷◌, ◌++◌, length, take, get_or, Some, inl, inr, refl, sym, ap, ◌∙◌, subst, arith}
+use Rattle.std.specs.Prelude.{slice_get, if◌then◌else◌, ◌||◌}
 use Rattle.std.specs.List.{dedup}
 use Rattle.std.specs.declared.cmp.Ordering.TheVariants.{Less}
 use Rattle.std.specs.Str.{bytes_eq}
@@ -13,21 +13,20 @@ use Rattle.std.proofs.lemmas.Cmp.{nat_list_cmp_total, nat_list_eq_equiv}
 use Rattle.std.proofs.lemmas.List.Kept.{AllPairs-cons, IsStrictlySortedBy-dedup, Contains-dedup}
 use Rattle.std.proofs.lemmas.List.Sorted.{Contains-permutation}
 use Rattle.std.specs.Bool.{Decides}
-use Rattle.std.specs.List.{All, AllPairs, Contains, list_any}
+use Rattle.std.specs.List.{AllPairs, Contains, list_any}
 use Rattle.std.specs.Cmp.Lexicographic.{slice_cmp}
 use Rattle.std.specs.Ordering.{nat_cmp, is_lt}
-use Rattle.std.proofs.lemmas.Option.{slice_get-map}
 use Rattle.std.proofs.Math.Seq.{take-length}
 use Rattle.std.proofs.lemmas.List.{take_more, get_or-take, get_or_default, length-take-le}
 use Rattle.std.proofs.lemmas.List.Elements.{All-from_recursion, All-weaker, Contains-push, Contains-push_cases, Contains-append_left, Contains-append_right, Contains-get_or}
 use Rattle.std.proofs.lemmas.List.Quantifiers.{all_pairs_push}
 use Rattle.pn_text.proofs.Bools.{or_cases, or_true}
 use Rattle.pn_text.proofs.Members.{none_in, in_cons, here, there}
-use Rattle.pn_graph.specs.Graphs.{Dep, Package, aliases, has_name, peer_names}
-use Rattle.pn_graph.specs.Lookups.{package_deps, package_peers}
+use Rattle.pn_graph.specs.Graphs.{Dep, Package, aliases, has_name}
+use Rattle.pn_graph.specs.Lookups.{package_deps}
 use Rattle.pn_graph.specs.Reaches.{LeadsTo, Leads, Reaches, itself, through}
 use Rattle.pn_graph.specs.Founds.{AreReached, IsMarked}
-use Rattle.pn_graph.specs.FreeNames.{FreeLaw, IsFree, AreFree, Keeps, added, passed, own, below, deps_past, passing, peers_at, is_peer_at}
+use Rattle.pn_graph.specs.FreeNames.{FreeLaw, IsFree, AreFree, Keeps, added, passed, own, below, passing, peers_at, is_peer_at}
 use Rattle.pn_graph.proofs.PassLemmas.{passing_deps}
 use Rattle.pn_graph.proofs.ReachLemmas.{onward, marked_within}
 

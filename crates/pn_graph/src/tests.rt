@@ -4,7 +4,8 @@ ghost use Rattle.pn_graph.specs.Graphs.{Peer as ThePeer, peer_names, in_range};
 ghost use Rattle.pn_graph.specs.Rows.{auto, on, package_at, project, first_packages, last_packages, projects};
 
 use crate::{
-    At, Auto, Autos, Dep, Deps, Package, Packages, Peer, Peers, Plain, Project, Projects, reach,
+    At, Auto, Autos, Dep, Deps, Package, Packages, Peer, Peers, Plain, Project, Projects,
+    free_names, reach,
 };
 use pn_text::{PkgId, PkgIx, PkgName, ProjIx, Text};
 use std::alloc::Global;

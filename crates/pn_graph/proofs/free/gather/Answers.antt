@@ -1,4 +1,4 @@
-use Rattle.std.proofs.Common.{◌≡◌, ◌≤◌, ℕ, List, length, take, get_or, sym, ap, ◌∙◌, subst, ◌++◌, rules}
+use Rattle.std.proofs.Common.{◌≡◌, ℕ, List, take, get_or, sym, ap, ◌∙◌, subst, ◌++◌}
 use Rattle.std.specs.List.{Contains}
 use Rattle.std.proofs.lemmas.List.Elements.{Contains-get_or}
 use Rattle.pn_graph.specs.Graphs.{peer_names}

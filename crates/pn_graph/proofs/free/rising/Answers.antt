@@ -1,6 +1,6 @@
-use Rattle.std.proofs.Common.{◌≡◌, ℕ, List, sym, subst}
+use Rattle.std.proofs.Common.{ℕ, List, sym, subst}
 use Rattle.std.specs.Str.{bytes_eq}
-use Rattle.std.specs.List.{AllPairs, Contains, dedup}
+use Rattle.std.specs.List.{AllPairs, Contains}
 use Rattle.std.proofs.lemmas.List.Filters.{dedup_is}
 use Rattle.pn_graph.proofs.FreeLemmas.{Below, rises_once, keeps_all}
 use Rattle.pn_graph.proofs.free.rising.Goals as goal
