@@ -1,0 +1,7 @@
+mod Rising
+mod VersionOrders
+mod Places
+mod Gathered
+mod SaidLemmas
+mod NameFolders
+mod OneShelf

@@ -1,0 +1,7 @@
+// Laws of what is published.
+ghost use Rattle.pn_published.specs.Refusals.{PublishedLaw};
+
+/// A tree publishes one shelf under a name, or there is one reason why it doesn't.
+pub fn published_law()
+    ensures { PublishedLaw }
+{}
