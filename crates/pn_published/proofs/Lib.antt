@@ -1,6 +1,7 @@
 mod Rising
 mod VersionOrders
-mod Places
+mod PlaceLemmas
+mod ChoiceLemmas
 mod Gathered
 mod SaidLemmas
 mod NameFolders

@@ -51,6 +51,11 @@ pub record HasBadTags (t : Tree) (p : Path) : Type 0 where
 abbrev pub shelf_with : List Parts → List Said → Shelf
 shelf_with versions said = record { versions = versions; latest = latest_of versions (tags_of versions said); tags = tags_of versions said }
 
+-- The latest version and the tags are those of some texts of tags.
+pub record IsShelf (shelf : Shelf) : Type 0 where
+  pub said : List Said
+  pub is : shelf ≡ shelf_with shelf.versions said
+
 -- The tree publishes this under the name. A name without a folder has no versions.
 pub record IsPublished (t : Tree) (name : List ℕ) (shelf : Shelf) : Type 0 where
   pub few : HasFew t (name_path name)

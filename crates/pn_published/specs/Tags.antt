@@ -7,7 +7,9 @@ use Rattle.semver.specs.Parse.{Parts}
 use Rattle.pn_text.specs.declared.limits.TheConstants.{TEXT_LIMIT}
 use Rattle.pn_text.specs.Ids.{parts_text}
 use Rattle.pn_fs.specs.Tree.{Entry, folder, file, link}
-use Rattle.pn_published.specs.Versions.{same_version, is_release}
+use Rattle.pn_published.specs.Versions.{same_version}
+use Rattle.pn_ranges.specs.Limits.{is_release}
+use Rattle.pn_published.specs.Places.{or_else, last_place, last_of}
 
 -- a tag, and the text that stands for it
 abbrev pub Said : Type 0
@@ -61,15 +63,6 @@ IsTagsFile (Some (link text)) said = said ≡ []
 abbrev pub IsBadTags : Option Entry → Type 0
 IsBadTags e = (said : List Said) → IsTagsFile e said → ⊥
 
-abbrev pub or_else : Option ℕ → Option ℕ → Option ℕ
-or_else (Some a) o = Some a
-or_else None o = o
-
--- the place of the last version that passes a test
-abbrev pub last_place : (Parts → Bool) → List Parts → Option ℕ
-last_place test [] = None
-last_place test (v ∷ vs) = or_else (option_map suc (last_place test vs)) (if test v then Some 0 else None)
-
 -- the place of the version that a text is, where it is published
 abbrev pub place_by : List Parts → Option Parts → Option ℕ
 place_by versions None = None
@@ -87,11 +80,6 @@ tags_of versions (s ∷ ss) = placed s.0 (place_by versions (parts_text s.1)) (t
 abbrev pub tag_at : List ℕ → List Tagged → Option ℕ
 tag_at tag [] = None
 tag_at tag (t ∷ ts) = if bytes_eq t.0 tag then Some t.1 else tag_at tag ts
-
--- the place of the greatest version
-abbrev pub last_of : List Parts → Option ℕ
-last_of [] = None
-last_of (v ∷ vs) = Some (length vs)
 
 -- The tag `latest` where its version is published; else the greatest version without a pre-release; else the greatest.
 abbrev pub latest_of : List Parts → List Tagged → Option ℕ

@@ -1,7 +1,7 @@
 -- The order of versions. A version is its parts: its three numbers `.0`, `.1` and `.2`, and the texts of its pre-release
 -- `.3` and its build `.4`. The order is the precedence of SemVer 2.0.0, section 11; versions of one precedence differ in
 -- their builds alone and go by the bytes of these.
-use Rattle.std.specs.Prelude.{◌==◌, Bool, List, length}
+use Rattle.std.specs.Prelude.{Bool, List}
 use Rattle.std.specs.List.{Contains}
 use Rattle.std.specs.List.Sorted.{IsStrictlySortedBy}
 use Rattle.std.specs.Cmp.Lexicographic.{slice_cmp}
@@ -21,10 +21,6 @@ same_version a b = is_eq (version_cmp a b)
 
 abbrev pub IsRising : List Parts → Type 0
 IsRising versions = IsStrictlySortedBy version_cmp versions
-
--- without a pre-release
-abbrev pub is_release : Parts → Bool
-is_release v = length v.3 == 0
 
 -- Two lists have the same members.
 pub record HasSame (xs ys : List Parts) : Type 0 where

@@ -3,8 +3,10 @@ ghost use Rattle.std.specs.Prelude.{◌≡◌, ◌≤◌, ◌++◌, ◌∷◌, [
 ghost use Rattle.semver.specs.Identifiers.{parts_of};
 ghost use Rattle.pn_text.specs.declared.limits.TheConstants.{ENTRY_LIMIT};
 ghost use Rattle.pn_text.specs.Ids.{parts_text};
-ghost use Rattle.pn_published.specs.Versions.{same_version, is_release};
-ghost use Rattle.pn_published.specs.Tags.{place_by, placed, tags_of, tag_at, last_place, last_of, latest_of};
+ghost use Rattle.pn_ranges.specs.Limits.{is_release};
+ghost use Rattle.pn_published.specs.Versions.{same_version};
+ghost use Rattle.pn_published.specs.Tags.{place_by, placed, tags_of, tag_at, latest_of};
+ghost use Rattle.pn_published.specs.Places.{last_place, last_of};
 ghost use Rattle.pn_published.specs.Shelves.{shelf_with};
 ghost use Rattle.pn_published.specs.Listed.{number, tagged, said};
 ghost use Rattle.pn_published.specs.Shown.{shelf_of};
@@ -65,7 +67,8 @@ fn place_by(alloc: Global, versions: &[Version], text: &str) -> Result<Option<Ve
     }
 }
 
-fn newer(passes: bool, at: u32, last: Option<VersionIx>) -> Option<VersionIx>
+/// This place where a test passes, else the last one before it.
+pub fn newer(passes: bool, at: u32, last: Option<VersionIx>) -> Option<VersionIx>
     ensures { option_map number result ≡ (if passes then Some at else option_map number last) }
 {
     if passes { Some(VersionIx(at)) } else { last }

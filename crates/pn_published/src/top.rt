@@ -5,7 +5,7 @@ ghost use Rattle.pn_text.specs.Path.{path_text};
 ghost use Rattle.pn_text.specs.Name.{name_path};
 ghost use Rattle.pn_fs.specs.Seen.{Keeps};
 ghost use Rattle.pn_fs.specs.Calls.{IsEntryName};
-ghost use Rattle.pn_published.specs.Shelves.{IsPublished};
+ghost use Rattle.pn_published.specs.Shelves.{IsPublished, IsShelf};
 ghost use Rattle.pn_published.specs.Tags.{tags_name};
 ghost use Rattle.pn_published.specs.Shown.{shelf_of};
 ghost use Rattle.pn_published.specs.Refusals.{VersionsRefused};
@@ -26,6 +26,7 @@ pub fn versions<R: ReadFs>(
     name: &PkgName,
 ) -> Result<Published, PublishedFault>
     ensures published { IfSome (R.seen registry.old).tree (λ t. IfOk result (λ p. IsPublished t name.now (shelf_of p))) }
+    ensures shelf { IfOk result (λ p. IsShelf (shelf_of p)) }
     ensures kept { Keeps (R.seen registry.old) (R.seen registry.new) }
     ensures fault { IfErr result (VersionsRefused (name_path name.now) (R.seen registry.old) (R.seen registry.new)) }
 {

@@ -1,8 +1,8 @@
 use Rattle.std.proofs.Common.{◌∙◌, sym, ap, option_map, Some, if◌then◌else◌}
 use Rattle.semver.specs.Identifiers.{parts_of}
-use Rattle.pn_published.specs.Versions.{is_release}
+use Rattle.pn_ranges.specs.Limits.{is_release}
 use Rattle.pn_published.specs.Listed.{number}
-use Rattle.pn_published.proofs.Places.{last_more}
+use Rattle.pn_published.proofs.PlaceLemmas.{last_more}
 use Rattle.pn_published.proofs.shelf.last_release.Goals as goal
 
 pub loop-at-preserved : goal.loop-at-preserved

@@ -1,7 +1,7 @@
 use Rattle.std.proofs.Common.{◌≡◌, map, option_map, take}
 use Rattle.semver.specs.Identifiers.{parts_of}
-use Rattle.pn_published.specs.Versions.{is_release}
-use Rattle.pn_published.specs.Tags.{last_place}
+use Rattle.pn_ranges.specs.Limits.{is_release}
+use Rattle.pn_published.specs.Places.{last_place}
 use Rattle.pn_published.specs.Listed.{number}
 use Rattle.pn_published.proofs.shelf.last_release.Given as goal
 

@@ -3,7 +3,7 @@ use Rattle.semver.specs.Parse.{Parts}
 use Rattle.semver.specs.Identifiers.{parts_of}
 use Rattle.pn_published.specs.Versions.{same_version}
 use Rattle.pn_published.specs.Listed.{number}
-use Rattle.pn_published.proofs.Places.{last_more}
+use Rattle.pn_published.proofs.PlaceLemmas.{last_more}
 use Rattle.pn_published.proofs.shelf.place_of.Goals as goal
 
 pub loop-at-preserved : goal.loop-at-preserved

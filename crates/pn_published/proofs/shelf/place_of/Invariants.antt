@@ -1,7 +1,7 @@
 use Rattle.std.proofs.Common.{◌≡◌, map, option_map, take}
 use Rattle.semver.specs.Identifiers.{parts_of}
 use Rattle.pn_published.specs.Versions.{same_version}
-use Rattle.pn_published.specs.Tags.{last_place}
+use Rattle.pn_published.specs.Places.{last_place}
 use Rattle.pn_published.specs.Listed.{number}
 use Rattle.pn_published.proofs.shelf.place_of.Given as goal
 

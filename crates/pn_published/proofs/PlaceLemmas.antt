@@ -3,7 +3,7 @@ use Rattle.std.proofs.Common.{◌≡◌, ◌<◌, ℕ, zero, suc, ◌+◌, List,
 use Rattle.semver.specs.Parse.{Parts}
 use Rattle.semver.specs.Identifiers.{parts_of}
 use Rattle.semver.specs.declared.Version.{Version}
-use Rattle.pn_published.specs.Tags.{or_else, last_place}
+use Rattle.pn_published.specs.Places.{or_else, last_place}
 
 -- one version more at the end
 last_push : (test : Parts → Bool) (xs : List Parts) (x : Parts) → last_place test (xs ++ x ∷ []) ≡ (if test x then Some (length xs) else last_place test xs)
