@@ -25,9 +25,9 @@ first_same : {K : Type 0} (R : K → K → Ordering) → ((a b : K) → R a b �
 first_same R asym x y xs ys h k a b = elim (in_cons y ys x a) [
   | inl is ↦ sym is
   | inr later ↦ elim (in_cons x xs y b) [
-      | inl is ↦ is
-      | inr after ↦ absurd (asym x y (above R x y xs h after) (above R y x ys k later))
-    ]
+    | inl is ↦ is
+    | inr after ↦ absurd (asym x y (above R x y xs h after) (above R y x ys k later))
+  ]
 ]
 
 pub rising_same : {K : Type 0} (R : K → K → Ordering) → ((a b : K) → R a b ≡ Less → R b a ≡ Less → ⊥) → (xs ys : List K) → IsStrictlySortedBy R xs → IsStrictlySortedBy R ys
@@ -38,4 +38,4 @@ rising_same R asym (x ∷ xs) [] h k f g = absurd (none_in x (f x (0, omega arit
 rising_same R asym (x ∷ xs) (y ∷ ys) h k f g =
     let same : x ≡ y = first_same R asym x y xs ys h k (f x (0, omega arith, refl)) (g y (0, omega arith, refl)) in
     ap (λ a. a ∷ xs) same ∙ ap (λ l. y ∷ l) (rising_same R asym xs ys (sorted_tail R x xs h) (sorted_tail R y ys k)
-        (behind R asym x y xs ys same h f) (behind R asym y x ys xs (sym same) k g))
+    (behind R asym x y xs ys same h f) (behind R asym y x ys xs (sym same) k g))

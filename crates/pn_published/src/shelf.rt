@@ -21,7 +21,11 @@ use semver::Version;
 use std::alloc::Global;
 
 /// The versions with their tags and the latest of them.
-pub fn shelf(alloc: Global, versions: Versions, texts: &[SaidTag]) -> Result<Published, PublishedFault>
+pub fn shelf(
+    alloc: Global,
+    versions: Versions,
+    texts: &[SaidTag],
+) -> Result<Published, PublishedFault>
     ensures shelf { IfOk result (λ p. shelf_of p ≡ shelf_with versions (map said texts.now)) }
     ensures fault { IfErr result (λ e. e ≡ PublishedFault.Memory) }
 {
@@ -46,7 +50,12 @@ fn tags_of(alloc: Global, versions: &[Version], texts: &[SaidTag]) -> Result<Vec
     Ok(all)
 }
 
-fn put(alloc: Global, all: &mut Vec<Tag>, one: &SaidTag, at: Option<VersionIx>) -> Result<(), Memory>
+fn put(
+    alloc: Global,
+    all: &mut Vec<Tag>,
+    one: &SaidTag,
+    at: Option<VersionIx>,
+) -> Result<(), Memory>
     ensures { OnOk result (map tagged all.new.items ≡ map tagged all.old.items ++ placed one.now.name (option_map number at) []) }
 {
     if let Some(version) = at {
