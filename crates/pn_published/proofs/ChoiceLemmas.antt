@@ -1,12 +1,10 @@
 -- The last version that passes a test is the greatest that does, and the choice among versions.
-use Rattle.std.proofs.Common.{◌≡◌, ◌<◌, ◌⊎◌, ℕ, zero, suc, ◌+◌, List, [], ◌∷◌, ◌++◌, ◌||◌, ◌&&◌, Bool, true, false, Option, Some, None, length, map, option_map, take, get_or, refl, sym, ap, ◌∙◌, subst, arith, add-one, inl, inr, if◌then◌else◌, slice_get}
+use Rattle.std.proofs.Common.{◌≡◌, ◌<◌, ◌⊎◌, ℕ, zero, suc, List, [], ◌∷◌, ◌||◌, ◌&&◌, Bool, true, false, Option, Some, None, map, option_map, get_or, refl, sym, ap, ◌∙◌, subst, arith, inl, inr, if◌then◌else◌, slice_get}
 use Rattle.std.specs.List.{list_any}
 use Rattle.std.specs.declared.cmp.Ordering.TheVariants.{Less}
 use Rattle.std.proofs.lemmas.Map.Keys.{Less-from_sorted}
 use Rattle.std.proofs.lemmas.Option.{slice_get_within, get_or_from_slice_get}
 use Rattle.semver.specs.Parse.{Parts}
-use Rattle.semver.specs.Identifiers.{parts_of}
-use Rattle.semver.specs.declared.Version.{Version}
 use Rattle.pn_published.specs.Versions.{IsRising, version_cmp}
 use Rattle.pn_published.specs.Places.{or_else, last_place}
 use Rattle.pn_published.specs.Choice.{fits, is_held, passes, if_passes, NonePasses, IsGreatest, IsLatest, LatestFails, IsChoice, greatest_held, the_latest, the_greatest, none, ChoiceLaw}

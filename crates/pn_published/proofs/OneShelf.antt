@@ -1,7 +1,6 @@
 -- A tree publishes one shelf under a name, or there is one reason why it doesn't.
-use Rattle.std.proofs.Common.{◌≡◌, ◌≤◌, ◌<◌, ℕ, List, [], Option, Some, None, length, refl, sym, ap, ◌∙◌, subst, arith}
+use Rattle.std.proofs.Common.{◌≡◌, ℕ, List, Option, Some, None, refl, sym, ap, ◌∙◌, arith}
 use Rattle.semver.specs.Parse.{Parts}
-use Rattle.serde_json.specs.Data.{Data}
 use Rattle.pn_text.specs.Name.{name_path}
 use Rattle.pn_text.specs.Path.{Path}
 use Rattle.pn_fs.specs.Tree.{Tree, Entry, folder, file, link}
@@ -9,7 +8,7 @@ use Rattle.pn_published.specs.declared.fault.PublishedFault.{PublishedFault}
 use Rattle.pn_published.specs.declared.fault.PublishedFault.TheVariants.{BadTags, Entries, Fault, Memory}
 use Rattle.pn_published.specs.Versions.{version_cmp}
 use Rattle.pn_published.specs.Tags.{Said, said_by, AreTags, IsTagsFile}
-use Rattle.pn_published.specs.Shelves.{Shelf, AreVersions, HasFew, HasMany, HasBadTags, IsPublished, shelf_with}
+use Rattle.pn_published.specs.Shelves.{Shelf, AreVersions, HasFew, HasMany, IsPublished, shelf_with}
 use Rattle.pn_published.specs.Refusals.{IsUnpublished, PublishedLaw}
 use Rattle.pn_published.proofs.Rising.{rising_same}
 use Rattle.pn_published.proofs.VersionOrders.{version_asym}

@@ -1,5 +1,5 @@
 -- What the file of tags says, read member by member.
-use Rattle.std.proofs.Common.{◌≡◌, ◌++◌, List, [], ◌∷◌, Option, Some, None, option_map, refl, ap, ◌∙◌, append_assoc}
+use Rattle.std.proofs.Common.{◌≡◌, ◌++◌, List, [], ◌∷◌, Option, Some, None, option_map, refl, ap, append_assoc}
 use Rattle.pn_published.specs.Tags.{Said}
 
 -- the tags that were read, and those that are left

@@ -1,5 +1,5 @@
 -- What a registry publishes under a name.
-use Rattle.std.specs.Prelude.{◌≡◌, ◌≤◌, ◌<◌, ◌∷◌, ℕ, Bool, true, false, List, [], ◌++◌, length, Option, Some, None, codes, if◌then◌else◌, option_to_list}
+use Rattle.std.specs.Prelude.{◌≡◌, ◌≤◌, ◌<◌, ◌∷◌, ℕ, List, length, Option, Some}
 use Rattle.std.specs.List.{Contains}
 use Rattle.semver.specs.Parse.{Parts}
 use Rattle.pn_text.specs.declared.limits.TheConstants.{ENTRY_LIMIT}
@@ -7,7 +7,7 @@ use Rattle.pn_text.specs.Name.{name_path}
 use Rattle.pn_text.specs.Path.{Path}
 use Rattle.pn_text.specs.Ids.{parts_text}
 use Rattle.pn_fs.specs.Calls.{IsListing}
-use Rattle.pn_fs.specs.Tree.{Tree, Entry, folder, file, link}
+use Rattle.pn_fs.specs.Tree.{Tree, folder}
 use Rattle.pn_published.specs.Versions.{IsRising}
 use Rattle.pn_published.specs.Tags.{Said, Tagged, tags_name, IsTagsFile, IsBadTags, tags_of, latest_of}
 

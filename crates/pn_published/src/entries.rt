@@ -4,7 +4,7 @@ ghost use Rattle.std.specs.List.{All};
 ghost use Rattle.semver.specs.Identifiers.{parts_of};
 ghost use Rattle.pn_text.specs.declared.limits.TheConstants.{ENTRY_LIMIT};
 ghost use Rattle.pn_text.specs.Ids.{parts_text};
-ghost use Rattle.pn_fs.specs.Seen.{Keeps};
+ghost use Rattle.pn_fs.specs.Seen.{Keeps, GaveNothing, GaveAtMost};
 ghost use Rattle.pn_fs.specs.Calls.{IsListing, IsEntryName};
 ghost use Rattle.pn_published.specs.Shelves.{AreVersions, HasFew};
 ghost use Rattle.pn_published.specs.Folders.{is_folder, version_at, versions_at};
@@ -26,6 +26,7 @@ pub fn read_versions<R: ReadFs>(
 ) -> Result<Versions, PublishedFault>
     ensures versions { IfSome (R.seen registry.old).tree (λ t. IfOk result (AreVersions t folder.now)) }
     ensures few { IfSome (R.seen registry.old).tree (λ t. OnOk result (HasFew t folder.now)) }
+    ensures gave { IfSome (R.seen registry.old).tree (λ t. OnOk result (GaveAtMost (R.seen registry.old) 0 ENTRY_LIMIT (R.seen registry.new))) }
     ensures kept { Keeps (R.seen registry.old) (R.seen registry.new) }
     ensures fault { IfErr result (ListRefused folder.now (R.seen registry.old) (R.seen registry.new)) }
 {
@@ -44,6 +45,7 @@ fn names_of<R: ReadFs>(
     ensures names { IfSome (R.seen registry.old).tree (λ t. IfOk result (λ names. IsListing t folder.now names.items)) }
     ensures good { IfOk result (λ names. All (IsEntryName folder.now) names.items) }
     ensures few { IfOk result (λ names. length names.items ≤ ENTRY_LIMIT) }
+    ensures gave { IfSome (R.seen registry.old).tree (λ t. OnOk result (GaveAtMost (R.seen registry.old) 0 ENTRY_LIMIT (R.seen registry.new))) }
     ensures kept { Keeps (R.seen registry.old) (R.seen registry.new) }
     ensures fault { IfErr result (ListRefused folder.now (R.seen registry.old) (R.seen registry.new)) }
 {
@@ -67,6 +69,7 @@ fn versions_at<R: ReadFs>(
     requires good { All (IsEntryName folder.now) names.now }
     ensures versions { IfSome (R.seen registry.old).tree (λ t. IfOk result (λ v. map parts_of v.items ≡ versions_at t folder.now names.now)) }
     ensures few { IfOk result (λ v. vec_len v ≤ length names.now) }
+    ensures gave { IfSome (R.seen registry.old).tree (λ t. GaveAtMost (R.seen registry.old) 0 0 (R.seen registry.new)) }
     ensures kept { Keeps (R.seen registry.old) (R.seen registry.new) }
     ensures fault { IfErr result (CallRefused (R.seen registry.old) (R.seen registry.new)) }
 {
@@ -96,6 +99,7 @@ fn version_at<R: ReadFs>(
 ) -> Result<Option<Version>, PublishedFault>
     requires { IsEntryName folder.now name.now }
     ensures version { IfSome (R.seen registry.old).tree (λ t. IfOk result (λ v. option_map parts_of v ≡ version_at t folder.now name.now)) }
+    ensures gave { IfSome (R.seen registry.old).tree (λ t. GaveNothing (R.seen registry.old) (R.seen registry.new)) }
     ensures kept { Keeps (R.seen registry.old) (R.seen registry.new) }
     ensures fault { IfErr result (CallRefused (R.seen registry.old) (R.seen registry.new)) }
 {
@@ -121,6 +125,7 @@ pub fn child(alloc: Global, folder: &AbsPath, name: &str) -> Result<AbsPath, Mem
 
 fn is_folder<R: ReadFs>(registry: &mut R, path: &AbsPath) -> Result<bool, PublishedFault>
     ensures folder { IfSome (R.seen registry.old).tree (λ t. IfOk result (λ is. is ≡ is_folder (t path.now))) }
+    ensures gave { IfSome (R.seen registry.old).tree (λ t. GaveNothing (R.seen registry.old) (R.seen registry.new)) }
     ensures kept { Keeps (R.seen registry.old) (R.seen registry.new) }
     ensures fault { IfErr result (CallRefused (R.seen registry.old) (R.seen registry.new)) }
 {

@@ -1,9 +1,9 @@
 // What the file of tags says.
-ghost use Rattle.std.specs.Prelude.{◌≡◌, ◌≤◌, [], IfOk, IfErr, IfSome, Some, map, length};
+ghost use Rattle.std.specs.Prelude.{◌≡◌, ◌≤◌, ◌+◌, [], IfOk, IfErr, IfSome, Some, map, length};
 ghost use Rattle.serde_json.specs.Data.{string};
 ghost use Rattle.serde_json.specs.View.{view, members_view};
 ghost use Rattle.pn_text.specs.declared.limits.TheConstants.{TEXT_LIMIT};
-ghost use Rattle.pn_fs.specs.Seen.{Keeps};
+ghost use Rattle.pn_fs.specs.Seen.{Keeps, GaveAtMost};
 ghost use Rattle.pn_fs.specs.Calls.{IsEntryName};
 ghost use Rattle.pn_published.specs.Tags.{tags_name, said_of, said_by, said_with, AreTags, IsTagsFile};
 ghost use Rattle.pn_published.specs.Shelves.{tags_path};
@@ -33,6 +33,7 @@ pub fn read_tags<R: ReadFs>(
 ) -> Result<Vec<SaidTag>, PublishedFault>
     requires { IsEntryName folder.now tags_name }
     ensures said { IfSome (R.seen registry.old).tree (λ t. IfOk result (λ v. IsTagsFile (t (tags_path folder.now)) (map said v.items))) }
+    ensures gave { IfSome (R.seen registry.old).tree (λ t. GaveAtMost (R.seen registry.old) (TEXT_LIMIT + 1) 0 (R.seen registry.new)) }
     ensures kept { Keeps (R.seen registry.old) (R.seen registry.new) }
     ensures fault { IfErr result (TagsRefused folder.now (R.seen registry.old) (R.seen registry.new)) }
 {

@@ -1,9 +1,9 @@
 // What a registry publishes under a name.
-ghost use Rattle.std.specs.Prelude.{◌≡◌, ◌≤◌, ◌++◌, length, IfOk, IfErr, IfSome, OnOk};
-ghost use Rattle.pn_text.specs.declared.limits.TheConstants.{PATH_LIMIT};
+ghost use Rattle.std.specs.Prelude.{◌≡◌, ◌≤◌, ◌+◌, ◌++◌, length, IfOk, IfErr, IfSome, OnOk};
+ghost use Rattle.pn_text.specs.declared.limits.TheConstants.{PATH_LIMIT, TEXT_LIMIT, ENTRY_LIMIT};
 ghost use Rattle.pn_text.specs.Path.{path_text};
 ghost use Rattle.pn_text.specs.Name.{name_path};
-ghost use Rattle.pn_fs.specs.Seen.{Keeps};
+ghost use Rattle.pn_fs.specs.Seen.{Keeps, GaveAtMost};
 ghost use Rattle.pn_fs.specs.Calls.{IsEntryName};
 ghost use Rattle.pn_published.specs.Shelves.{IsPublished, IsShelf};
 ghost use Rattle.pn_published.specs.Tags.{tags_name};
@@ -27,6 +27,7 @@ pub fn versions<R: ReadFs>(
 ) -> Result<Published, PublishedFault>
     ensures published { IfSome (R.seen registry.old).tree (λ t. IfOk result (λ p. IsPublished t name.now (shelf_of p))) }
     ensures shelf { IfOk result (λ p. IsShelf (shelf_of p)) }
+    ensures gave { IfSome (R.seen registry.old).tree (λ t. OnOk result (GaveAtMost (R.seen registry.old) (TEXT_LIMIT + 1) ENTRY_LIMIT (R.seen registry.new))) }
     ensures kept { Keeps (R.seen registry.old) (R.seen registry.new) }
     ensures fault { IfErr result (VersionsRefused (name_path name.now) (R.seen registry.old) (R.seen registry.new)) }
 {

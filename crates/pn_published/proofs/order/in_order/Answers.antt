@@ -1,4 +1,4 @@
-use Rattle.std.proofs.Common.{rules, ◌≡◌, subst, sym, map, List}
+use Rattle.std.proofs.Common.{rules, ◌≡◌, subst, sym, map}
 use Rattle.std.specs.Ordering.{is_lt, on, eq_by_cmp}
 use Rattle.std.specs.List.{dedup}
 use Rattle.std.proofs.lemmas.Fn.{dedup_same}

@@ -1,4 +1,4 @@
-use Rattle.std.proofs.Common.{◌≡◌, ◌++◌, map}
+use Rattle.std.proofs.Common.{◌≡◌, map}
 use Rattle.serde_json.specs.View.{members_view}
 use Rattle.pn_published.specs.Tags.{said_of}
 use Rattle.pn_published.specs.Listed.{said}
