@@ -1,5 +1,8 @@
 -- The tags of a name, and which version is its latest.
-use Rattle.std.specs.Prelude.{◌≡◌, ◌≤◌, ℕ, List, [], ◌∷◌, Option, Some, None, codes, length, option_map, if◌then◌else◌}
+use Rattle.std.specs.Prelude.{◌≡◌, ◌≤◌, ℕ, List, [], ◌∷◌, Option, Some, None, codes, length, map, option_map, if◌then◌else◌}
+use Rattle.std.specs.Cmp.Lexicographic.{slice_cmp}
+use Rattle.std.specs.List.Sorted.{IsStrictlySortedBy}
+use Rattle.std.specs.Ordering.{nat_cmp}
 use Rattle.std.specs.Str.{bytes_eq, IsUtf8}
 use Rattle.serde_json.specs.Data.{Data, null, boolean, number, string, array, object, Members, no_members, member}
 use Rattle.serde_json.specs.Read.{read}
@@ -18,6 +21,13 @@ Said = List ℕ × List ℕ
 -- a tag, and the place of its version
 abbrev pub Tagged : Type 0
 Tagged = List ℕ × ℕ
+
+-- byte order of tags, each once
+abbrev pub AreRising : List Said → Type 0
+AreRising said = IsStrictlySortedBy (slice_cmp nat_cmp) (map (λ (s : Said). s.0) said)
+
+abbrev pub AreRisingTags : List Tagged → Type 0
+AreRisingTags tags = IsStrictlySortedBy (slice_cmp nat_cmp) (map (λ (t : Tagged). t.0) tags)
 
 -- the name of the file of tags
 abbrev pub tags_name : List ℕ

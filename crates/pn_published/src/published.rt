@@ -3,6 +3,7 @@ ghost use Rattle.std.specs.Prelude.{◌≡◌, ◌≤◌, length, map};
 ghost use Rattle.semver.specs.Identifiers.{parts_of};
 ghost use Rattle.pn_text.specs.declared.limits.TheConstants.{ENTRY_LIMIT};
 ghost use Rattle.pn_published.specs.Versions.{IsRising};
+ghost use Rattle.pn_published.specs.Tags.{AreRisingTags};
 ghost use Rattle.pn_published.specs.Listed.{tagged};
 
 use pn_text::{Text, VersionIx};
@@ -63,23 +64,27 @@ pub struct Tags {
 
 impl Model for Tags {
     ghost use Rattle.std.specs.Prelude.{List, map};
-    ghost use Rattle.pn_published.specs.Tags.{Tagged};
+    ghost use Rattle.pn_published.specs.Tags.{Tagged, AreRisingTags};
     ghost use Rattle.pn_published.specs.Listed.{tagged};
 
     ghost Value = { List Tagged };
 
     ghost view = { λ a. map tagged a.items.items };
+
+    ghost invariant = { λ a. AreRisingTags (map tagged a.items.items) };
 }
 
 impl Tags {
     pub(crate) fn of(items: Vec<Tag>) -> Tags
+        requires { AreRisingTags (map tagged items.items) }
         ensures { result ≡ map tagged items.items }
     {
         Tags { items }
     }
 
     pub fn as_slice(&self) -> &[Tag]
-        ensures { map tagged result.now ≡ self.now }
+        ensures tags { map tagged result.now ≡ self.now }
+        ensures rising { AreRisingTags self.now }
     {
         self.items.as_slice()
     }

@@ -5,7 +5,7 @@ ghost use Rattle.pn_text.specs.declared.limits.TheConstants.{ENTRY_LIMIT};
 ghost use Rattle.pn_text.specs.Ids.{parts_text};
 ghost use Rattle.pn_ranges.specs.Limits.{is_release};
 ghost use Rattle.pn_published.specs.Versions.{same_version};
-ghost use Rattle.pn_published.specs.Tags.{place_by, placed, tags_of, tag_at, latest_of};
+ghost use Rattle.pn_published.specs.Tags.{AreRising, place_by, placed, tags_of, tag_at, latest_of};
 ghost use Rattle.pn_published.specs.Places.{last_place, last_of};
 ghost use Rattle.pn_published.specs.Shelves.{shelf_with};
 ghost use Rattle.pn_published.specs.Listed.{number, tagged, said};
@@ -26,6 +26,7 @@ pub fn shelf(
     versions: Versions,
     texts: &[SaidTag],
 ) -> Result<Published, PublishedFault>
+    requires { AreRising (map said texts.now) }
     ensures shelf { IfOk result (λ p. shelf_of p ≡ shelf_with versions (map said texts.now)) }
     ensures fault { IfErr result (λ e. e ≡ PublishedFault.Memory) }
 {

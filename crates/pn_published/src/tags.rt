@@ -5,7 +5,7 @@ ghost use Rattle.serde_json.specs.View.{view, members_view};
 ghost use Rattle.pn_text.specs.declared.limits.TheConstants.{TEXT_LIMIT};
 ghost use Rattle.pn_fs.specs.Seen.{Keeps, GaveAtMost};
 ghost use Rattle.pn_fs.specs.Calls.{IsEntryName};
-ghost use Rattle.pn_published.specs.Tags.{tags_name, said_of, said_by, said_with, AreTags, IsTagsFile};
+ghost use Rattle.pn_published.specs.Tags.{AreRising, tags_name, said_of, said_by, said_with, AreTags, IsTagsFile};
 ghost use Rattle.pn_published.specs.Shelves.{tags_path};
 ghost use Rattle.pn_published.specs.Listed.{said};
 ghost use Rattle.pn_published.specs.Refusals.{TagsRefused, TextRefused, NoneSaid};
@@ -35,6 +35,7 @@ pub fn read_tags<R: ReadFs>(
     ensures said { IfSome (R.seen registry.old).tree (λ t. IfOk result (λ v. IsTagsFile (t (tags_path folder.now)) (map said v.items))) }
     ensures gave { IfSome (R.seen registry.old).tree (λ t. GaveAtMost (R.seen registry.old) (TEXT_LIMIT + 1) 0 (R.seen registry.new)) }
     ensures kept { Keeps (R.seen registry.old) (R.seen registry.new) }
+    ensures rising { IfOk result (λ v. AreRising (map said v.items)) }
     ensures fault { IfErr result (TagsRefused folder.now (R.seen registry.old) (R.seen registry.new)) }
 {
     let path = child(alloc, folder, "tags.json")?;
@@ -50,6 +51,7 @@ pub fn read_tags<R: ReadFs>(
 fn said_in(alloc: Global, bytes: &[u8]) -> Result<Vec<SaidTag>, PublishedFault>
     requires { length bytes.now ≤ TEXT_LIMIT }
     ensures ok { IfOk result (λ v. AreTags bytes.now (map said v.items)) }
+    ensures rising { IfOk result (λ v. AreRising (map said v.items)) }
     ensures fault { IfErr result (TextRefused bytes.now) }
 {
     let Ok(text) = std::str::from_utf8(bytes) else {
@@ -64,6 +66,7 @@ fn said_in(alloc: Global, bytes: &[u8]) -> Result<Vec<SaidTag>, PublishedFault>
 
 fn said_by(alloc: Global, value: &Value) -> Result<Vec<SaidTag>, PublishedFault>
     ensures ok { IfOk result (λ v. said_by (view value.now) ≡ Some (map said v.items)) }
+    ensures rising { IfOk result (λ v. AreRising (map said v.items)) }
     ensures fault { IfErr result (NoneSaid (said_by (view value.now))) }
 {
     match value.as_object() {
@@ -74,6 +77,7 @@ fn said_by(alloc: Global, value: &Value) -> Result<Vec<SaidTag>, PublishedFault>
 
 fn said_of(alloc: Global, members: &Map<String, Value>) -> Result<Vec<SaidTag>, PublishedFault>
     ensures ok { IfOk result (λ v. said_of (members_view members.now.entries) ≡ Some (map said v.items)) }
+    ensures rising { IfOk result (λ v. AreRising (map said v.items)) }
     ensures fault { IfErr result (NoneSaid (said_of (members_view members.now.entries))) }
 {
     let mut all = Vec::new(alloc);
