@@ -5,6 +5,7 @@ use Rattle.std.specs.declared.cmp.Ordering.TheVariants.{Less}
 use Rattle.std.proofs.lemmas.Map.Keys.{Less-from_sorted}
 use Rattle.std.proofs.lemmas.Option.{slice_get_within, get_or_from_slice_get}
 use Rattle.semver.specs.Parse.{Parts}
+use Rattle.pn_text.proofs.Bools.{true_false}
 use Rattle.pn_published.specs.Versions.{IsRising, version_cmp}
 use Rattle.pn_published.specs.Places.{or_else, last_place}
 use Rattle.pn_published.specs.Choice.{fits, is_held, passes, if_passes, NonePasses, IsGreatest, IsLatest, LatestFails, IsChoice, greatest_held, the_latest, the_greatest, none, ChoiceLaw}
@@ -25,7 +26,7 @@ data Lasts (test : Parts → Bool) (versions : List Parts) (o : Option ℕ) : Ty
   at : (k : ℕ) → o ≡ Some k → IsLast test versions k → Lasts test versions o
   nowhere : o ≡ None → NonePasses test versions → Lasts test versions o
 
-one_some : {A : Type 0} {x y : A} → Some x ≡ Some y → x ≡ y
+pub one_some : {A : Type 0} {x y : A} → Some x ≡ Some y → x ≡ y
 one_some e = cc
 
 lasts : (test : Parts → Bool) (versions : List Parts) → Lasts test versions (last_place test versions)
@@ -54,9 +55,6 @@ lasts test (v ∷ vs) = elim (lasts test vs) [
     all f n zero u is = ap test (sym (one_some is)) ∙ f
     all f n (suc j) u is = n j u is
 
-true_false : {b : Bool} → b ≡ true → b ≡ false → ⊥
-true_false e f = cc
-
 -- where versions rise, the last is the greatest
 greatest : (test : Parts → Bool) (versions : List Parts) (k : ℕ) → IsRising versions → IsLast test versions k → IsGreatest test versions k
 greatest test versions k rising l = record {
@@ -64,7 +62,7 @@ greatest test versions k rising l = record {
   there = l.there;
   passes = l.passes;
   greatest = λ j u is yes other. elim (before j) [
-    | inl later ↦ absurd (true_false yes (l.last j u later is))
+    | inl later ↦ absurd (true_false (test u) yes (l.last j u later is))
     | inr (inl same) ↦ absurd (other same)
     | inr (inr earlier) ↦ below j u is earlier
   ];

@@ -10,11 +10,9 @@ use Rattle.pn_published.specs.Versions.{version_cmp}
 use Rattle.pn_published.specs.Tags.{Said, said_by, AreTags, IsTagsFile}
 use Rattle.pn_published.specs.Shelves.{Shelf, AreVersions, HasFew, HasMany, IsPublished, shelf_with}
 use Rattle.pn_published.specs.Refusals.{IsUnpublished, PublishedLaw}
+use Rattle.pn_published.proofs.ChoiceLemmas.{one_some}
 use Rattle.pn_published.proofs.Rising.{rising_same}
 use Rattle.pn_published.proofs.VersionOrders.{version_asym}
-
-one_some : {A : Type 0} {x y : A} → Some x ≡ Some y → x ≡ y
-one_some e = cc
 
 one_tags : (bytes : List ℕ) (a b : List Said) → AreTags bytes a → AreTags bytes b → a ≡ b
 one_tags bytes a b h k =
