@@ -5,3 +5,7 @@ pub mod PatternLemmas
 pub mod TakesLemmas
 pub mod ReadsLemmas
 pub mod WayLemmas
+pub mod AnswerProofs
+pub mod PassedProofs
+pub mod SettledProofs
+pub mod JoinProofs

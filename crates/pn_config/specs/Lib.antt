@@ -5,4 +5,5 @@ pub mod Settings
 pub mod Files
 pub mod Folders
 pub mod Ways
+pub mod Laws
 pub mod Faults

@@ -13,6 +13,7 @@ mod config;
 mod fault;
 mod folder;
 mod key;
+mod laws;
 mod overrides;
 mod patterns;
 mod settings;
@@ -20,4 +21,5 @@ mod value;
 
 pub use config::Config;
 pub use fault::ConfigFault;
+pub use laws::{answer_law, join_law, passed_law, settled_law};
 pub use overrides::Overrides;
