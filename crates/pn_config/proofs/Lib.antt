@@ -7,5 +7,6 @@ pub mod ReadsLemmas
 pub mod WayLemmas
 pub mod AnswerProofs
 pub mod PassedProofs
+pub mod CatalogProofs
 pub mod SettledProofs
 pub mod JoinProofs

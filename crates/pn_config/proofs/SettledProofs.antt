@@ -16,6 +16,7 @@ use Rattle.pn_config.specs.Keys.{in_table, key_of, keys}
 use Rattle.pn_config.specs.Laws.{ArePublic, AreSettled, IsFlag, SettledLaw, Settles, under}
 use Rattle.pn_config.specs.Settings.{Says, SaysNames, SaysPaths, Takes, Value, all_names, default_settings, no_names, no_paths, put}
 use Rattle.pn_config.specs.Values.{Pair, filled_text, flag_of, pairs_of}
+use Rattle.pn_config.proofs.CatalogProofs.{has_texts}
 
 abbrev name_of : Key → List ℕ
 name_of key.Packages = codes "packages"
@@ -155,6 +156,7 @@ settled_by ms root t reads = record {
   pairs = t.overrides;
   pairs_are = said_overrides ms default_settings t reads;
   overrides = refl;
+  catalogs = has_texts ms t reads;
 }
 
 pub settled : SettledLaw

@@ -6,6 +6,7 @@ use Rattle.pn_glob.specs.Matching.{Patterns}
 use Rattle.pn_yaml.specs.Data.{Data, map, Members, no_members, member}
 use Rattle.pn_config.specs.declared.config.Config.{Config}
 use Rattle.pn_config.specs.declared.key.Key.TheVariants as key
+use Rattle.pn_config.specs.CatalogTexts.{HasTexts}
 use Rattle.pn_config.specs.Files.{NamesBad, ReadsConfig, joined}
 use Rattle.pn_config.specs.Keys.{key_of, only_value}
 use Rattle.pn_config.specs.Settings.{SaysNames, SaysPaths, all_names, no_names, no_paths}
@@ -48,7 +49,7 @@ abbrev pub ArePublic : Members → Bool → Patterns → Type 0
 ArePublic ms true l = l ≡ all_names
 ArePublic ms false l = Settles ms (codes "publicHoistPattern") (l ≡ no_names) (λ d. SaysNames d l)
 
--- Each setting but the catalogs is settled by its key alone, public hoisting by two.
+-- Each setting is settled by its key alone, public hoisting and the catalogs by two.
 pub record AreSettled (ms : Members) (root : List Pair) (c : Config) : Type 0 where
   pub packages : Settles ms (codes "packages") (c.packages ≡ no_paths) (λ d. SaysPaths d c.packages)
   pub auto_install_peers : IsFlag ms (codes "autoInstallPeers") true c.auto_install_peers
@@ -63,6 +64,7 @@ pub record AreSettled (ms : Members) (root : List Pair) (c : Config) : Type 0 wh
   pub pairs : List Pair
   pub pairs_are : Settles ms (codes "overrides") (pairs ≡ []) (λ d. pairs_of d ≡ Some pairs)
   pub overrides : c.overrides ≡ joined root pairs
+  pub catalogs : HasTexts ms c.catalogs
 
 abbrev pub SettledLaw : Type 0
 SettledLaw = (ms : Members) (root : List Pair) (c : Config) → ReadsConfig (Some (map ms)) root c → AreSettled ms root c

@@ -5,5 +5,6 @@ pub mod Settings
 pub mod Files
 pub mod Folders
 pub mod Ways
+pub mod CatalogTexts
 pub mod Laws
 pub mod Faults

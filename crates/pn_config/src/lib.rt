@@ -17,6 +17,8 @@ mod laws;
 mod overrides;
 mod patterns;
 mod settings;
+#[cfg(test)]
+mod tests;
 mod value;
 
 pub use config::Config;

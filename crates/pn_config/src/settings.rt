@@ -117,7 +117,7 @@ impl Settings {
         ensures ok { OnOk result (Takes Key.Catalog key.now (view value.now) self.old self.new) }
         ensures fault { IfErr result (Stops (IsBad Key.Catalog key.now (view value.now) self.old)) }
     {
-        let _ = key;
+        let _ = key; // the clauses name it
         if self.has_default {
             return Err(Stop::Bad);
         }
@@ -130,7 +130,7 @@ impl Settings {
         ensures ok { OnOk result (Takes Key.Catalogs key.now (view value.now) self.old self.new) }
         ensures fault { IfErr result (Stops (IsBad Key.Catalogs key.now (view value.now) self.old)) }
     {
-        let _ = key;
+        let _ = key; // the clauses name it
         let default = names_default(value);
         if self.has_default && default {
             return Err(Stop::Bad);
@@ -159,7 +159,7 @@ pub(crate) fn read_members(alloc: Global, members: &[(Text, Node)]) -> Result<Se
     ensures fault { IfErr result (Refuses (FirstBad default_settings (members_view members.now))) }
 {
     let mut settings = match Settings::new(alloc) {
-        Ok(settings) => settings,
+        Ok(start) => start,
         Err(_) => return Err(ConfigFault::Memory),
     };
     for (key, value) in members {
