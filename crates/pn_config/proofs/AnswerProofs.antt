@@ -1,28 +1,24 @@
 -- A file has one answer.
-use Rattle.std.proofs.Common.{◌≡◌, ℕ, List, [], ◌∷◌, ◌++◌, Bool, true, false, Some, None, refl, sym, ap, ◌∙◌, subst, inl, inr}
-use Rattle.std.specs.Prelude.{◌≢◌, Option}
-use Rattle.pn_glob.specs.declared.fault.GlobFault.{GlobFault}
-use Rattle.pn_glob.specs.declared.fault.GlobFault.TheVariants as glob
+use Rattle.std.proofs.Common.{◌≡◌, ℕ, List, ◌∷◌, ◌++◌, Some, None, refl, sym, ap, ◌∙◌, subst, inl, inr}
+use Rattle.std.specs.Prelude.{Option}
 use Rattle.pn_glob.specs.declared.kind.Kind.TheVariants.{Paths, Names}
 use Rattle.pn_glob.specs.Lists.{AreNames, ArePaths, Refused}
 use Rattle.pn_glob.specs.Matching.{Patterns}
 use Rattle.pn_glob.proofs.Settled.{settled}
 use Rattle.pn_spec.specs.declared.entry.CatalogEntry.{CatalogEntry}
-use Rattle.pn_spec.specs.declared.spec.Spec.{Spec}
 use Rattle.pn_spec.specs.Forms.{IsSpec}
 use Rattle.pn_spec.proofs.OneReading.{readings}
 use Rattle.pn_text.proofs.Bools.{true_false}
 use Rattle.pn_yaml.specs.Data.{Data, scalar, list, map, Members, no_members, member}
-use Rattle.pn_config.specs.declared.config.Config.{Config}
 use Rattle.pn_config.specs.declared.key.Key.{Key}
 use Rattle.pn_config.specs.declared.key.Key.TheVariants as key
 use Rattle.pn_config.specs.declared.settings.Settings.{Settings}
 use Rattle.pn_config.specs.CatalogValues.{AreCatalogs, AreCatalogsOf, AreEntries, AreNoCatalogs, Entered, HasBadCatalog, HasBadEntry, IsBadEntry, IsCatalogOf, IsEntryOf, IsNoCatalog}
-use Rattle.pn_config.specs.Files.{FirstBad, NamesBad, ReadsConfig, ReadsFile, ReadsOn, config_of}
+use Rattle.pn_config.specs.Files.{FirstBad, NamesBad, ReadsFile, ReadsOn, config_of}
 use Rattle.pn_config.specs.Keys.{key_of}
 use Rattle.pn_config.specs.Laws.{AnswerLaw}
 use Rattle.pn_config.specs.Settings.{IsBad, Says, SaysNames, SaysNoNames, SaysNoPaths, SaysNothing, SaysPaths, Takes, Value, default_settings, put}
-use Rattle.pn_config.specs.Values.{Pair, texts_of}
+use Rattle.pn_config.specs.Values.{texts_of}
 
 some_one : {A : Type 0} (x y : A) (o : Option A) → o ≡ Some x → o ≡ Some y → x ≡ y
 some_one x y o h k = cc

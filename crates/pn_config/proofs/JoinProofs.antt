@@ -12,7 +12,7 @@ use Rattle.std.proofs.lemmas.Bool.{cases_Bool}
 use Rattle.std.proofs.lemmas.Cmp.{nat_list_cmp_total, tied_itself}
 use Rattle.std.proofs.lemmas.Map.Lookups.{exact_bytes}
 use Rattle.std.proofs.lemmas.Slice.Eq.{bytes_eq-Decides}
-use Rattle.pn_config.specs.Files.{joined, put_pairs}
+use Rattle.pn_config.specs.Files.{put_pairs}
 use Rattle.pn_config.specs.Laws.{JoinLaw, last_text, text_at}
 use Rattle.pn_config.specs.Values.{Pair}
 

@@ -1,6 +1,5 @@
 -- A key that is passed over changes nothing.
-use Rattle.std.proofs.Common.{◌≡◌, ℕ, List, true, None, refl, sym, ap, ◌∙◌, subst, inl, inr}
-use Rattle.std.specs.Prelude.{◌↔◌}
+use Rattle.std.proofs.Common.{◌≡◌, ℕ, List, None, refl, sym, ap, subst, inl, inr}
 use Rattle.pn_text.proofs.Bools.{and_false, true_false}
 use Rattle.pn_yaml.specs.Data.{Data, Members, no_members, member}
 use Rattle.pn_config.specs.declared.key.Key.TheVariants as key

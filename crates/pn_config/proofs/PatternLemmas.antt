@@ -1,6 +1,5 @@
 -- The patterns of a file without keys.
 use Rattle.std.proofs.Common.{◌≡◌, ℕ, List, [], ◌∷◌, refl, subst}
-use Rattle.pn_glob.specs.declared.kind.Kind.TheVariants.{Names}
 use Rattle.pn_glob.specs.Lists.{AreNames, none, positive}
 use Rattle.pn_glob.specs.Matching.{Patterns}
 use Rattle.pn_glob.proofs.Settled.{settled}

@@ -1,5 +1,5 @@
 -- The members of a file, one after the other.
-use Rattle.std.proofs.Common.{◌≡◌, ℕ, ◌<◌, ◌≤◌, ◌+◌, List, [], ◌∷◌, length, drop, get_or, refl, sym, ap, ◌∙◌, subst, inl, inr}
+use Rattle.std.proofs.Common.{◌≡◌, ℕ, ◌<◌, ◌+◌, List, length, drop, get_or, sym, ◌∙◌, subst, inl, inr}
 use Rattle.pn_yaml.specs.View.{view, members_view}
 use Rattle.pn_yaml.specs.declared.node.Node.{Node}
 use Rattle.pn_config.specs.declared.fault.ConfigFault.{ConfigFault}

@@ -6,15 +6,14 @@ use Rattle.std.specs.Option.{option_or}
 use Rattle.std.specs.Str.{bytes_eq}
 use Rattle.std.proofs.lemmas.Slice.Eq.{bytes_eq-Decides}
 use Rattle.pn_glob.specs.Matching.{Patterns}
-use Rattle.pn_yaml.specs.Data.{Data, map, Members, no_members, member}
-use Rattle.pn_config.specs.declared.config.Config.{Config}
+use Rattle.pn_yaml.specs.Data.{Data, Members, no_members, member}
 use Rattle.pn_config.specs.declared.key.Key.{Key}
 use Rattle.pn_config.specs.declared.key.Key.TheVariants as key
 use Rattle.pn_config.specs.declared.settings.Settings.{Settings}
-use Rattle.pn_config.specs.Files.{ReadsConfig, ReadsOn, config_of, joined}
+use Rattle.pn_config.specs.Files.{ReadsOn, config_of}
 use Rattle.pn_config.specs.Keys.{in_table, key_of, keys}
-use Rattle.pn_config.specs.Laws.{ArePublic, AreSettled, IsFlag, SettledLaw, Settles, under}
-use Rattle.pn_config.specs.Settings.{Says, SaysNames, SaysPaths, Takes, Value, all_names, default_settings, no_names, no_paths, put}
+use Rattle.pn_config.specs.Laws.{ArePublic, AreSettled, SettledLaw, under}
+use Rattle.pn_config.specs.Settings.{SaysNames, SaysPaths, Takes, all_names, default_settings}
 use Rattle.pn_config.specs.Values.{Pair, filled_text, flag_of, pairs_of}
 use Rattle.pn_config.proofs.CatalogProofs.{has_texts}
 

@@ -1,5 +1,5 @@
 -- Settings after a key.
-use Rattle.std.proofs.Common.{◌≡◌, ℕ, List, Bool, false, refl, sym, ap, ◌∙◌, subst}
+use Rattle.std.proofs.Common.{◌≡◌, ℕ, List, false, sym, ap, ◌∙◌, subst}
 use Rattle.std.specs.Prelude.{◌&&◌}
 use Rattle.pn_text.proofs.Bools.{and_false}
 use Rattle.pn_yaml.specs.Data.{Data}

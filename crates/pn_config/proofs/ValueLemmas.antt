@@ -1,5 +1,5 @@
 -- What lists and maps of texts say at their ends.
-use Rattle.std.proofs.Common.{◌≡◌, ℕ, ◌≤◌, List, [], ◌++◌, length, drop, refl, sym, ap, ◌∙◌, append-nil, Some}
+use Rattle.std.proofs.Common.{◌≡◌, ℕ, ◌≤◌, List, [], ◌++◌, length, drop, ap, ◌∙◌, append-nil, Some}
 use Rattle.pn_yaml.specs.View.{items_view, members_view}
 use Rattle.pn_yaml.specs.declared.node.Node.{Node}
 use Rattle.pn_config.specs.declared.fault.Stop.{Stop}

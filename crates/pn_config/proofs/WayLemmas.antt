@@ -1,6 +1,6 @@
 -- Ways up and down.
-use Rattle.std.proofs.Common.{◌≡◌, ◌≢◌, ℕ, suc, zero, ◌+◌, ◌-◌, ◌<◌, ◌≤◌, List, [], ◌∷◌, ◌++◌, length, take, drop, refl, sym, ap, ◌∙◌, subst, append_assoc, append-nil, arith, false, Some, None, lit<, length-append}
-use Rattle.std.specs.Prelude.{Option, ◌==◌, not, IsTrue, option_to_list}
+use Rattle.std.proofs.Common.{◌≡◌, ℕ, suc, zero, ◌+◌, ◌≤◌, List, [], ◌∷◌, ◌++◌, length, take, drop, refl, sym, ap, ◌∙◌, subst, append_assoc, arith, Some, None, lit<, length-append}
+use Rattle.std.specs.Prelude.{Option, ◌==◌, not, IsTrue}
 use Rattle.std.specs.Option.{MatchOption}
 use Rattle.std.specs.Str.{NoCharPasses}
 use Rattle.std.specs.Str.Pattern.{RFindsChar, SplitsAroundMatch}
@@ -10,7 +10,6 @@ use Rattle.std.specs.Cmp.Derive.{both_true}
 use denote.Ref.{Bor}
 use Rattle.pn_text.specs.declared.fault.PathFault.{PathFault}
 use Rattle.pn_text.specs.declared.fault.PathFault.TheVariants as path
-use Rattle.pn_text.specs.declared.limits.TheConstants.{PATH_LIMIT}
 use Rattle.pn_text.specs.Faults.{JoinFault}
 use Rattle.pn_text.specs.Path.{Path, is_flat, is_part, is_path, path_text, tail_of, text_below}
 use Rattle.pn_text.specs.Relative.{above}
@@ -19,8 +18,8 @@ use Rattle.pn_text.proofs.Bytes.{no_slash}
 use Rattle.pn_text.proofs.Joins.{is_path-append, text_below-append}
 use Rattle.pn_text.proofs.Paths.{not_true, parts_from-append, parts_from-flat}
 use Rattle.pn_config.specs.declared.folder.Way.{Way}
-use Rattle.pn_config.specs.Folders.{led, led_by}
-use Rattle.pn_config.specs.Ways.{IsWay, PutsName, PutsPart, led_along}
+use Rattle.pn_config.specs.Folders.{led_by}
+use Rattle.pn_config.specs.Ways.{PutsName, PutsPart, led_along}
 
 flat_text : (bs : List ℕ) → NoCharPasses (λ d. d == 47) bs → IsTrue (is_flat bs)
 flat_text bs h = ap not (no_slash bs (λ i l. NoCharPasses-char 47 bs i h (lit< tt) l))

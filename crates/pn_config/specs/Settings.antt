@@ -10,7 +10,7 @@ use Rattle.pn_yaml.specs.Data.{Data}
 use Rattle.pn_config.specs.declared.key.Key.{Key}
 use Rattle.pn_config.specs.declared.key.Key.TheVariants as key
 use Rattle.pn_config.specs.declared.settings.Settings.{Settings}
-use Rattle.pn_config.specs.Keys.{key_of, only_value}
+use Rattle.pn_config.specs.Keys.{only_value}
 use Rattle.pn_config.specs.Values.{Pair, filled_text, flag_of, is_allowed, pairs_of, texts_of}
 use Rattle.pn_config.specs.CatalogValues.{AreCatalogsOf, AreNoCatalogs, IsCatalogOf, IsNoCatalog, names_default, puts}
 

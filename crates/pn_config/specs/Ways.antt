@@ -1,5 +1,5 @@
 -- Steps up and parts down, as a text is read from its end.
-use Rattle.std.specs.Prelude.{◌≡◌, ◌≤◌, ℕ, ◌+◌, List, [], ◌++◌, ◌∷◌, IsTrue, length}
+use Rattle.std.specs.Prelude.{◌≡◌, ◌≤◌, ℕ, ◌+◌, List, ◌++◌, ◌∷◌, IsTrue, length}
 use Rattle.pn_text.specs.Path.{Path, is_part, is_path}
 use Rattle.pn_text.specs.Relative.{above}
 use Rattle.pn_config.specs.declared.folder.Way.{Way}

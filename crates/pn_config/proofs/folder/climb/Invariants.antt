@@ -1,4 +1,4 @@
-use Rattle.std.proofs.Common.{◌≡◌, ◌≤◌, ◌-◌}
+use Rattle.std.proofs.Common.{◌≡◌, ◌-◌}
 use Rattle.pn_text.specs.Relative.{above}
 use Rattle.pn_config.proofs.folder.climb.Given as goal
 

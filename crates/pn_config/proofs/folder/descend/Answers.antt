@@ -1,7 +1,6 @@
 use Rattle.std.proofs.Common.{◌≡◌, ◌++◌, ◌∷◌, [], sym, ap, ◌∙◌, subst, append_assoc, IsTrue, rules}
 use Rattle.pn_text.specs.Faults.{JoinFault}
 use Rattle.pn_text.specs.Path.{is_part, path_text}
-use Rattle.pn_text.proofs.Results.{if_err}
 use Rattle.pn_config.proofs.WayLemmas.{last_good, long_below}
 use Rattle.pn_config.proofs.folder.descend.Goals as goal
 

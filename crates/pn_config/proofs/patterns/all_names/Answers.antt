@@ -1,4 +1,4 @@
-use Rattle.std.proofs.Common.{◌≡◌, [], ◌∷◌, ◌++◌, ap, ◌∙◌, rules}
+use Rattle.std.proofs.Common.{rules}
 use Rattle.pn_config.proofs.PatternLemmas.{star_is}
 use Rattle.pn_config.proofs.patterns.all_names.Goals as goal
 

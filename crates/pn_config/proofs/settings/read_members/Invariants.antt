@@ -1,4 +1,4 @@
-use Rattle.std.proofs.Common.{◌≡◌, ℕ, List, drop}
+use Rattle.std.proofs.Common.{ℕ, List, drop}
 use Rattle.pn_yaml.specs.View.{members_view}
 use Rattle.pn_config.specs.declared.settings.Settings.{Settings}
 use Rattle.pn_config.specs.Files.{FirstBad, ReadsOn}

@@ -1,4 +1,4 @@
-use Rattle.std.proofs.Common.{◌≡◌, sym, ap, ◌∙◌, None}
+use Rattle.std.proofs.Common.{◌≡◌, sym, ap, ◌∙◌}
 use Rattle.pn_yaml.specs.Data.{map}
 use Rattle.pn_yaml.specs.View.{view, members_view}
 use Rattle.pn_yaml.proofs.NodeViews.{view-Map}
