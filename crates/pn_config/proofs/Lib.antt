@@ -1,0 +1,12 @@
+pub mod MemberLemmas
+pub mod EntryLemmas
+pub mod ValueLemmas
+pub mod PatternLemmas
+pub mod TakesLemmas
+pub mod ReadsLemmas
+pub mod WayLemmas
+pub mod AnswerProofs
+pub mod PassedProofs
+pub mod CatalogProofs
+pub mod SettledProofs
+pub mod JoinProofs

@@ -1,0 +1,5 @@
+use Rattle.pn_config.proofs.WayLemmas.{last_cut}
+use Rattle.pn_config.proofs.folder.last_part.Goals as goal
+
+pub returns : goal.returns
+returns c = last_cut c.args.text.now c.rsplit_once.result c.rsplit_once.ensures.cases

@@ -1,0 +1,10 @@
+pub mod Keys
+pub mod Values
+pub mod CatalogValues
+pub mod Settings
+pub mod Files
+pub mod Folders
+pub mod Ways
+pub mod CatalogTexts
+pub mod Laws
+pub mod Faults
