@@ -1,3 +1,6 @@
 pub mod Held
+pub mod Reads
+pub mod Begins
+pub mod Puts
 pub mod Faults
 pub mod Claims

@@ -12,9 +12,12 @@
 
 mod calls;
 mod claims;
+mod compare;
 mod fault;
 mod number;
+mod files;
 
 pub use claims::{claim, release};
 pub use fault::{ClaimFault, PutFault, ReadFault};
 pub use number::Claim;
+pub use files::{Put, put_file};
