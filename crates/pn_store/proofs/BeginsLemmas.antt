@@ -1,5 +1,5 @@
 -- Lemmas on whether a file begins with some bytes.
-use Rattle.std.proofs.Common.{◌≡◌, ◌≢◌, ℕ, ◌+◌, ◌<◌, ◌≤◌, List, [], ◌++◌, length, take, drop, refl, sym, ap, ◌∙◌, arith, subst, Bool, true, false, Some, None, length-append, inl, inr, ◌⊎◌}
+use Rattle.std.proofs.Common.{◌≡◌, ◌≢◌, ℕ, ◌<◌, ◌≤◌, List, [], ◌++◌, length, take, drop, refl, sym, ap, ◌∙◌, arith, subst, Bool, true, false, Some, length-append, inl, inr, ◌⊎◌}
 use Rattle.std.specs.Prelude.{Option, IfSome, ◌↔◌}
 use Rattle.std.specs.Option.{ForSome}
 use Rattle.std.proofs.Math.Seq.{take-add, take-append_seam, take-length}
@@ -35,9 +35,12 @@ begins_on e bytes piece at true true size h k l =
     (h.0, h.1, ap (λ x. x ++ piece) h.2 ∙ ap (λ x. take (length bytes) h.0 ++ x) rest ∙ sym (front_of_both h.0 bytes piece))
 begins_on e bytes piece at true false size h k l =
     let m = k refl in
-    let same : m.0 ≡ h.0 = file_once e m.0 h.0 m.1 h.1 in
-    (h.0, h.1, λ is. m.2 (append_cancel_left bytes piece (take (length piece) (drop at m.0))
-        (is ∙ front_of_both h.0 bytes piece ∙ ap (λ x. x ++ take (length piece) (drop (length bytes) h.0)) (sym h.2) ∙ ap (λ i. bytes ++ take (length piece) (drop i h.0)) (sym size) ∙ ap (λ w. bytes ++ take (length piece) (drop at w)) (sym same))))
+    let same : m.0 ≡ h.0 = file_once e m.0 h.0 m.1 h.1 in (
+      h.0,
+      h.1,
+      λ is. m.2 (append_cancel_left bytes piece (take (length piece) (drop at m.0))
+          (is ∙ front_of_both h.0 bytes piece ∙ ap (λ x. x ++ take (length piece) (drop (length bytes) h.0)) (sym h.2) ∙ ap (λ i. bytes ++ take (length piece) (drop i h.0)) (sym size) ∙ ap (λ w. bytes ++ take (length piece) (drop at w)) (sym same))),
+    )
 begins_on e bytes piece at false true size h k l = absurd (true_isnt (l refl))
   where
     true_isnt : true ≡ false → ⊥

@@ -1,5 +1,5 @@
 -- Lemmas on what a put met at its address, and on its refusals.
-use Rattle.std.proofs.Common.{◌≡◌, ◌≢◌, ◌≤◌, ◌⊎◌, inl, inr, ℕ, List, refl, sym, ap, ◌∙◌, arith, subst, Some, None}
+use Rattle.std.proofs.Common.{◌≡◌, ◌≢◌, ◌≤◌, inl, inr, ℕ, List, refl, sym, ap, ◌∙◌, arith, subst, Some, None}
 use Rattle.std.specs.Prelude.{Option, IfSome}
 use Rattle.sha2.specs.Sha512.{sha512}
 use Rattle.pn_text.specs.Path.{Path}
@@ -10,14 +10,14 @@ use Rattle.pn_storecore.specs.declared.step.Place.{Place}
 use Rattle.pn_storecore.specs.declared.step.Place.TheVariants.{Files}
 use Rattle.pn_storecore.specs.Seen.{Seen}
 use Rattle.pn_storecore.specs.Held.{Holds, TempFiles, files_with, no_files}
-use Rattle.pn_storecore.specs.Grew.{Grew, Was}
+use Rattle.pn_storecore.specs.Grew.{Grew}
 use Rattle.pn_storecore.specs.CallLaws.{GrewLaw, WasLaw}
 use Rattle.pn_store.specs.declared.compare.Met.{Met}
 use Rattle.pn_store.specs.declared.compare.Met.TheVariants as met
 use Rattle.pn_store.specs.declared.fault.PutFault.{PutFault}
 use Rattle.pn_store.specs.declared.fault.PutFault.TheVariants.{StoreFault, SourceFault, TooLarge, Clash, Memory}
 use Rattle.pn_store.specs.Held.{Works}
-use Rattle.pn_store.specs.Reads.{Changed, StoodThere}
+use Rattle.pn_store.specs.Reads.{StoodThere}
 use Rattle.pn_store.specs.Faults.{Clashes, IsLong, FileRefused, PutRefused}
 use Rattle.pn_store.specs.Puts.{IsFound, IsMet, IsSource, absent, same, other, long}
 

@@ -4,3 +4,4 @@ pub mod Begins
 pub mod Puts
 pub mod Faults
 pub mod Claims
+pub mod Listed

@@ -14,10 +14,14 @@ mod calls;
 mod claims;
 mod compare;
 mod fault;
-mod number;
 mod files;
+mod laws;
+mod listings;
+mod number;
 
 pub use claims::{claim, release};
 pub use fault::{ClaimFault, PutFault, ReadFault};
-pub use number::Claim;
 pub use files::{Put, put_file};
+pub use laws::wrong_law;
+pub use listings::put_listing;
+pub use number::Claim;

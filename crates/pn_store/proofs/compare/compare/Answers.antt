@@ -1,4 +1,4 @@
-use Rattle.std.proofs.Common.{◌≡◌, [], ◌≤◌, ◌<◌, ◌+◌, ◌++◌, ◌∙◌, ℕ, length, take, refl, sym, subst, arith, length-append, length-take, length-take-le}
+use Rattle.std.proofs.Common.{◌≡◌, [], ◌≤◌, ◌+◌, ◌++◌, length, take, refl, subst, arith, length-append, length-take}
 use Rattle.std.specs.Prelude.{IfSome}
 use Rattle.pn_storecore.specs.declared.step.Place.TheVariants.{Files}
 use Rattle.pn_storecore.specs.Grew.{ReadTo}
