@@ -50,6 +50,11 @@ told_none place at from into (Some j) new h = none_of place at from into j new h
 pub absent : WasLaw → (place : Place) (at : List ℕ) (from : ℕ) (into : List ℕ) (old mid new : Seen) → Grew old mid → IfSome mid.journal (λ j. ReadTo place at from into None j new.journal) → Was place at None old new
 absent law place at from into old mid new grew h = law.before old mid new place at None grew (told_none place at from into mid.journal new.journal h)
 
+-- something that was read stood there
+pub present : (place : Place) (at : List ℕ) (from n : ℕ) (into : List ℕ) (o new : Option Journal) → IfSome o (λ j. ReadTo place at from into (Some n) j new) → (b : List ℕ) × IfSome o (λ j. WasTo place at (Some b) j new)
+present place at from n into None new h = ([], tt)
+present place at from n into (Some j) new h = let p = piece_of place at from n into j new h.bytes h.was h.answer in (p.0, p.1)
+
 changed_behind : WasLaw → (place : Place) (at : List ℕ) (old mid new : Seen) → Grew mid new → Changed place at old mid → Changed place at old new
 changed_behind law place at old mid new grew h = record { one = h.one; other = h.other; differ = h.differ; first = law.behind old mid new place at (Some h.one) h.first grew; second = law.behind old mid new place at (Some h.other) h.second grew }
 

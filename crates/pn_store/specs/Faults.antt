@@ -13,8 +13,6 @@ use Rattle.pn_text.specs.declared.fault.DevFault.{DevFault}
 use Rattle.pn_text.specs.declared.fault.DevFault.TheVariants.{Failed, Memory as no_memory}
 use Rattle.pn_store.specs.declared.fault.PutFault.{PutFault}
 use Rattle.pn_store.specs.declared.fault.PutFault.TheVariants.{StoreFault, SourceFault, TooLarge, Clash, Memory}
-use Rattle.pn_store.specs.declared.fault.ReadFault.{ReadFault}
-use Rattle.pn_store.specs.declared.fault.ReadFault.TheVariants.{Fault, Memory as out_of}
 
 -- a call of the store failed
 abbrev pub StoreRefuses : Seen → Seen → PutFault → Type 0
@@ -53,12 +51,6 @@ FileRefused p from gone old new e = ⊥
 abbrev pub PutRefused : Path → Tree → Tree → Seen → Seen → PutFault → Type 0
 PutRefused p from gone old new (Clash at) = Clashes from p at old new
 PutRefused p from gone old new e = FileRefused p from gone old new e
-
--- why a number was not given back
-abbrev pub ReleaseRefused : Seen → Seen → ReadFault → Type 0
-ReleaseRefused old new Fault = Rose old.faults new.faults
-ReleaseRefused old new out_of = Unit {0}
-ReleaseRefused old new e = ⊥
 
 -- the answer of a call of the store, in this crate's words
 abbrev pub store_answer : {T : Type 0} → Result T DevFault → Result T PutFault

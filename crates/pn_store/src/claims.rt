@@ -5,7 +5,8 @@ ghost use Rattle.pn_storecore.specs.Held.{IsFree};
 ghost use Rattle.pn_storecore.specs.Grew.{Grew, Stood, TookNone};
 ghost use Rattle.pn_store.specs.Claims.{IsClaimed, IsTried, ClaimRefused};
 ghost use Rattle.pn_store.specs.Held.{HoldsFile, IsHeld};
-ghost use Rattle.pn_store.specs.Faults.{StoreRefuses, ReleaseRefused};
+ghost use Rattle.pn_store.specs.Reads.{ReadRefused};
+ghost use Rattle.pn_store.specs.Faults.{StoreRefuses};
 
 use crate::calls::drop_file;
 use crate::fault::{ClaimFault, PutFault, ReadFault, of_store};
@@ -60,7 +61,7 @@ pub fn release<D: StoreDisk>(disk: &mut D, claim: Claim) -> Result<(), ReadFault
     ensures left { OnErr result (IsHeld (D.seen disk.new) claim ⊎ IsFree (D.seen disk.new) claim) }
     ensures grew { Grew (D.seen disk.old) (D.seen disk.new) }
     ensures later { (D.seen disk.old).faults ≤ (D.seen disk.new).faults }
-    ensures fault { IfErr result (ReleaseRefused (D.seen disk.old) (D.seen disk.new)) }
+    ensures fault { IfErr result (ReadRefused (D.seen disk.old) (D.seen disk.new)) }
 {
     match give_back(disk, claim.number()) {
         Ok(()) => Ok(()),

@@ -18,6 +18,7 @@ mod files;
 mod laws;
 mod listings;
 mod number;
+mod reads;
 
 pub use claims::{claim, release};
 pub use fault::{ClaimFault, PutFault, ReadFault};
@@ -25,3 +26,4 @@ pub use files::{Put, put_file};
 pub use laws::wrong_law;
 pub use listings::put_listing;
 pub use number::Claim;
+pub use reads::{has, listing, read_piece};
