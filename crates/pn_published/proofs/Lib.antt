@@ -1,0 +1,8 @@
+mod Rising
+mod VersionOrders
+mod PlaceLemmas
+mod ChoiceLemmas
+mod Gathered
+mod SaidLemmas
+mod NameFolders
+mod OneShelf

@@ -1,0 +1,9 @@
+use Rattle.std.proofs.Common.{◌≡◌, map, option_map, take}
+use Rattle.semver.specs.Identifiers.{parts_of}
+use Rattle.pn_ranges.specs.Limits.{is_release}
+use Rattle.pn_published.specs.Places.{last_place}
+use Rattle.pn_published.specs.Listed.{number}
+use Rattle.pn_published.proofs.shelf.last_release.Given as goal
+
+abbrev pub invariant-loop-at : goal.invariant-loop-at
+invariant-loop-at l = option_map number l.last ≡ last_place is_release (map parts_of (take l.at l.versions))

@@ -1,0 +1,9 @@
+pub mod Versions
+pub mod Places
+pub mod Tags
+pub mod Folders
+pub mod Shelves
+pub mod Refusals
+pub mod Listed
+pub mod Shown
+pub mod Choice
