@@ -1,0 +1,2 @@
+pub mod AimLemmas
+pub mod PlainLemmas

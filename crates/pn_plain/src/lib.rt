@@ -1,0 +1,6 @@
+//! The plain graph: what projects and packages ask for, and what that leads to.
+#![tactic(auto)]
+
+mod laws;
+
+pub use laws::plain_law;
