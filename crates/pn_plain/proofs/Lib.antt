@@ -1,2 +1,3 @@
 pub mod AimLemmas
 pub mod PlainLemmas
+pub mod SeenLemmas

@@ -16,7 +16,8 @@ use Rattle.pn_plain.specs.Causes.{Cause, Shown, Refused}
 use Rattle.pn_plain.specs.Said.{Said}
 use Rattle.pn_plain.specs.Seen.{Owner, a_project, a_package, Hook, Rules, one_map, dependency_names, dropped, counted, wishes_of, IsSeen}
 use Rattle.pn_plain.specs.Plains.{Project, Inputs, given_by, IsNode, AreStarts, no_more, one_more, IsPlain, IsUnplain}
-use Rattle.pn_plain.specs.PlainLaws.{Told, IsToldShelf, IsGap, IsToldManifest, IsUnread, IsOverridden, IsToldNode, PlainLaw}
+use Rattle.pn_plain.specs.PlainLaws.{PlainLaw}
+use Rattle.pn_plain.specs.Told.{Told, IsToldShelf, IsGap, IsToldManifest, IsUnread, IsOverridden, IsToldNode}
 use Rattle.pn_plain.proofs.AimLemmas.{settled, apart}
 
 -- overrides make one thing of a manifest
@@ -97,7 +98,7 @@ not_both_ways r a e x y = cc
 some_once : {A : Type 0} (o : Option A) (a b : A) → o ≡ Some a → o ≡ Some b → a ≡ b
 some_once o a b x y = cc
 
-told_rules : (t : Told) → AreRules (IsOverridden t)
+pub told_rules : (t : Told) → AreRules (IsOverridden t)
 told_rules t m a b x y = some_once (t.overridden m) a b x y
 
 told_shown : (t : Told) → Shown (IsToldShelf t) (IsGap t) (IsToldNode t) (IsUnread t)

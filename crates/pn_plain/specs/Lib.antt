@@ -5,4 +5,6 @@ pub mod Readings
 pub mod Aims
 pub mod Causes
 pub mod Plains
+pub mod Told
 pub mod PlainLaws
+pub mod SeenLaws

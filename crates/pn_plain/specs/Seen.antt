@@ -31,19 +31,16 @@ own_names None = []
 own_names (Some name) = name ∷ []
 
 -- A package's `devDependencies` don't count.
-abbrev pub pruned : Owner → Said → Said
-pruned a_project m = m
-pruned a_package m = record m { dev = [] }
+abbrev pub dev_of : Owner → Said → List Pair
+dev_of a_project m = m.dev
+dev_of a_package m = []
 
 -- A name counts in one map: optional dependencies go before dependencies, and these before those for development.
-abbrev pub merged : Said → Said
-merged m = record m {
-  dependencies = but (names m.optional) m.dependencies;
-  dev = but (names m.optional ++ names m.dependencies) m.dev;
-}
-
 abbrev pub one_map : Owner → Said → Said
-one_map owner m = merged (pruned owner m)
+one_map owner m = record m {
+  dependencies = but (names m.optional) m.dependencies;
+  dev = but (names m.optional ++ names m.dependencies) (dev_of owner m);
+}
 
 abbrev pub dependency_names : Said → List (List ℕ)
 dependency_names m = names m.dependencies ++ (names m.dev ++ names m.optional)

@@ -1,5 +1,12 @@
-// Laws of the plain graph.
-ghost use Rattle.pn_plain.specs.PlainLaws.{Told, PlainLaw};
+// Laws of seen manifests and of the plain graph.
+ghost use Rattle.pn_plain.specs.PlainLaws.{PlainLaw};
+ghost use Rattle.pn_plain.specs.SeenLaws.{SeenLaw};
+ghost use Rattle.pn_plain.specs.Told.{Told};
+
+/// A manifest is seen in one way, in which a name counts once.
+pub fn seen_law()
+    ensures { (told : Told) → SeenLaw told }
+{}
 
 /// What is told settles one graph, or one refusal and never both. The graph is that of what the projects ask for, and the
 /// refused edge is one that they or a package that they reach ask for.

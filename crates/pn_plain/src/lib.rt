@@ -3,4 +3,4 @@
 
 mod laws;
 
-pub use laws::plain_law;
+pub use laws::{plain_law, seen_law};
