@@ -8,3 +8,4 @@ pub mod Plains
 pub mod Told
 pub mod PlainLaws
 pub mod SeenLaws
+pub mod Rows
