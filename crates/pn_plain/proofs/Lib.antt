@@ -1,3 +1,4 @@
 pub mod AimLemmas
 pub mod PlainLemmas
 pub mod SeenLemmas
+pub mod GraphRowLemmas

@@ -9,3 +9,4 @@ pub mod Told
 pub mod PlainLaws
 pub mod SeenLaws
 pub mod Rows
+pub mod GraphRows

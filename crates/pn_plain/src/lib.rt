@@ -2,5 +2,7 @@
 #![tactic(auto)]
 
 mod laws;
+mod rows;
 
 pub use laws::{plain_law, seen_law};
+pub use rows::graph_rows;
