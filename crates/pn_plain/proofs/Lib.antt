@@ -1,4 +1,5 @@
 pub mod AimLemmas
 pub mod PlainLemmas
 pub mod SeenLemmas
+pub mod WishLemmas
 pub mod GraphRowLemmas

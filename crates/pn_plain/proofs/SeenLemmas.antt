@@ -61,7 +61,7 @@ none_among all n h c = true_false (is_among all n) (among_from all n c) (not_tru
 name_of : Pair → List ℕ
 name_of e = e.0
 
-in_names : (pairs : List Pair) (n : List ℕ) → Contains (names pairs) n → IsIn pairs n
+pub in_names : (pairs : List Pair) (n : List ℕ) → Contains (names pairs) n → IsIn pairs n
 in_names pairs n h = let m = from_map (λ (e : Pair). e.0) pairs n h in (m.0.1, subst (λ (x : List ℕ). Contains pairs (x, m.0.1)) m.2 m.1)
 
 names_in : (pairs : List Pair) (n : List ℕ) → IsIn pairs n → Contains (names pairs) n

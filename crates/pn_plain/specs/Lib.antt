@@ -8,5 +8,6 @@ pub mod Plains
 pub mod Told
 pub mod PlainLaws
 pub mod SeenLaws
+pub mod WishLaws
 pub mod Rows
 pub mod GraphRows

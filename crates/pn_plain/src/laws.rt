@@ -2,10 +2,16 @@
 ghost use Rattle.pn_plain.specs.PlainLaws.{PlainLaw};
 ghost use Rattle.pn_plain.specs.SeenLaws.{SeenLaw};
 ghost use Rattle.pn_plain.specs.Told.{Told};
+ghost use Rattle.pn_plain.specs.WishLaws.{WishLaw};
 
 /// A manifest is seen in one way, in which a name counts once.
 pub fn seen_law()
     ensures { (told : Told) → SeenLaw told }
+{}
+
+/// A manifest asks for its dependencies and nothing else, in byte order of aliases.
+pub fn wish_law()
+    ensures { WishLaw }
 {}
 
 /// What is told settles one graph, or one refusal and never both. The graph is that of what the projects ask for, and the
