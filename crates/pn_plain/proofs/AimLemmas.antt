@@ -18,7 +18,7 @@ use Rattle.pn_walk.specs.Walks.{Turn, Lands, LandsAt, Meets, Takes, place_of}
 use Rattle.pn_walk.specs.WalkLaws.{AreSettled, AreApart}
 use Rattle.pn_published.specs.Shelves.{Shelf}
 use Rattle.pn_plain.specs.Given.{Given, held_of, version_of}
-use Rattle.pn_plain.specs.Readings.{Reading, of_package, of_project, no_entry, reading, Bearer, one, nobody, two, bearer, bearing}
+use Rattle.pn_plain.specs.Readings.{Reading, of_package, of_project, no_entry, reading, Bearer, one, nobody, two}
 use Rattle.pn_plain.specs.Aims.{Found, Chooses, Borne, ReadingLeads, Reads, LeadsBy, Leads, bearer_of}
 use Rattle.pn_plain.specs.Causes.{Cause, unsupported, no_catalog, no_project, two_projects, registry, no_version, packages, Shown, NoVersion, NoProject, ReadingRefused, NotMet, Refused, no_form, no_aim, not_met}
 

@@ -1,33 +1,28 @@
 -- Small plain graphs, edge by edge.
-use Rattle.std.proofs.Common.{◌≡◌, ◌<◌, ℕ, ◌+◌, true, false, List, [], ◌∷◌, Option, Some, None, refl, arith, map, ◌++◌, inl, inr, codes}
+use Rattle.std.proofs.Common.{◌≡◌, ℕ, true, false, List, [], ◌∷◌, Option, Some, None, refl, arith, map, ◌++◌, inr, codes}
 use Rattle.std.specs.Fmt.{digits}
-use Rattle.semver.specs.Parse.{Parts}
-use Rattle.pn_ranges.specs.Grammar.{Spells}
-use Rattle.pn_ranges.specs.Limits.{Limit}
 use Rattle.pn_ranges.proofs.Stopped.{no-byte, ranges-form}
 use Rattle.pn_spec.specs.Forms.{IsSpec, IsTag}
-use Rattle.pn_spec.specs.declared.spec.Spec.{Spec}
 use Rattle.pn_spec.specs.declared.spec.Spec.TheVariants as spec
 use Rattle.pn_spec.specs.declared.want.Want.{Want}
 use Rattle.pn_spec.specs.declared.want.Want.TheVariants as want
 use Rattle.pn_spec.specs.declared.workspace.WsSpec.{WsSpec}
 use Rattle.pn_spec.specs.declared.workspace.WsWant.TheVariants as ws
-use Rattle.pn_walk.specs.declared.node.Node.{Node}
 use Rattle.pn_walk.specs.declared.wish.Wish.{Wish}
 use Rattle.pn_walk.specs.declared.wish.Aim.{Aim}
 use Rattle.pn_walk.specs.declared.wish.Aim.TheVariants.{Project as to_project, Package as to_package}
 use Rattle.pn_walk.specs.declared.wish.Place.TheVariants.{Project as at_project, Package as at_package}
-use Rattle.pn_walk.specs.Walks.{Turn, Link, State, turn_by, start, Lands, LandsAt, Meets, IsKnown, Takes, Moves, Walk, ends, goes, IsWalked, IsStopped}
+use Rattle.pn_walk.specs.Walks.{Turn, Link, State, turn_by, start, Moves, ends, goes}
 use Rattle.pn_published.specs.Shelves.{shelf_with}
-use Rattle.pn_plain.specs.Aims.{Leads, Reads, Chooses, id_at}
-use Rattle.pn_plain.specs.Causes.{Cause, no_version, no_catalog, no_project, Refused, no_form, no_aim, not_met}
+use Rattle.pn_plain.specs.Aims.{Leads}
+use Rattle.pn_plain.specs.Causes.{no_version, no_catalog, no_project, no_aim}
 use Rattle.pn_plain.specs.GraphRows.{small, asks, asked, b_met, GraphRows}
-use Rattle.pn_plain.specs.Plains.{Inputs, given_by, Project, AreStarts, no_more, one_more, IsNode, IsPlain, IsUnplain}
-use Rattle.pn_plain.specs.Readings.{Reading, of_package, of_project, no_entry, nobody, one}
+use Rattle.pn_plain.specs.Plains.{Inputs, given_by, AreStarts, no_more, one_more}
+use Rattle.pn_plain.specs.Readings.{of_package, of_project, no_entry}
 use Rattle.pn_plain.specs.Rows.{said_with, release}
-use Rattle.pn_plain.specs.Said.{Pair, Said}
-use Rattle.pn_plain.specs.Seen.{a_project, a_package, seen, wishes_of, IsSeen}
-use Rattle.pn_plain.specs.Told.{Told, IsToldShelf, IsToldNode, IsToldPlain, IsToldUnplain, IsOverridden}
+use Rattle.pn_plain.specs.Said.{Pair}
+use Rattle.pn_plain.specs.Seen.{a_project, seen, wishes_of}
+use Rattle.pn_plain.specs.Told.{IsToldShelf, IsToldNode, IsToldPlain, IsToldUnplain, IsOverridden}
 
 latest_tag : IsTag (codes "latest") (codes "latest")
 latest_tag = record {
@@ -84,15 +79,19 @@ leads_in i = Leads (IsToldShelf small) (given_by i)
 -- a wish for `npm:b@latest` leads to b
 leads_to_b : (i : Inputs) → i.held ≡ [] → (alias : List ℕ) → leads_in i (asked false alias (codes "npm:b@latest")).wish (Some (to_package (codes "b@1.0.0")))
 unfolding digits
-leads_to_b i none alias = (of_package (codes "b") latest,
-    record { spec = spec.Alias (codes "b") latest; says = alias_spec; is = refl },
-    (Some (release 1 0 0), record { shelf = shelf_with (release 1 0 0 ∷ []) []; shows = refl; is = refl }, refl))
+leads_to_b i none alias = (
+  of_package (codes "b") latest,
+  record { spec = spec.Alias (codes "b") latest; says = alias_spec; is = refl },
+  (Some (release 1 0 0), record { shelf = shelf_with (release 1 0 0 ∷ []) []; shows = refl; is = refl }, refl),
+)
 
 -- an optional wish for a leads nowhere
 a_absent : (i : Inputs) → leads_in i (asked true (codes "a") (codes "latest")).wish None
-a_absent i = (of_package (codes "a") latest,
-    record { spec = spec.Tag (codes "latest"); says = latest_spec; is = refl },
-    (None, record { shelf = shelf_with [] []; shows = refl; is = refl }, (refl, refl)))
+a_absent i = (
+  of_package (codes "a") latest,
+  record { spec = spec.Tag (codes "latest"); says = latest_spec; is = refl },
+  (None, record { shelf = shelf_with [] []; shows = refl; is = refl }, (refl, refl)),
+)
 
 leads_to_w : (dependencies optional : List Pair) → leads_in (asks dependencies optional) (asked false (codes "p") (codes "workspace:w@^")).wish (Some (to_project 0))
 leads_to_w dependencies optional = (of_project (codes "w") ws.Caret, record { spec = spec.Workspace project_w; says = project_spec; is = refl }, refl)
@@ -127,7 +126,11 @@ with_both = record { todo = []; met = b_met ∷ []; links = c_link ∷ d_link �
 
 meets_b : Moves (leads_in alias_inputs) (IsToldNode small) both with_c
 meets_b = record {
-  turn = c_turn; rest = d_turn ∷ []; next = refl; to = Some (at_package 0); added = b_met ∷ [];
+  turn = c_turn;
+  rest = d_turn ∷ [];
+  next = refl;
+  to = Some (at_package 0);
+  added = b_met ∷ [];
   takes = record {
     aim = Some (to_package (codes "b@1.0.0"));
     aims = leads_to_b alias_inputs refl (codes "c");
@@ -138,7 +141,11 @@ meets_b = record {
 
 finds_b : Moves (leads_in alias_inputs) (IsToldNode small) with_c with_both
 finds_b = record {
-  turn = d_turn; rest = []; next = refl; to = Some (at_package 0); added = [];
+  turn = d_turn;
+  rest = [];
+  next = refl;
+  to = Some (at_package 0);
+  added = [];
   takes = record {
     aim = Some (to_package (codes "b@1.0.0"));
     aims = leads_to_b alias_inputs refl (codes "d");
@@ -170,10 +177,12 @@ first_row = record {
   starts = starts first_pairs [];
   stopped = record {
     walk = ends (start (a_turn ∷ b_turn ∷ [])) refl;
-    turn = a_turn; rest = b_turn ∷ []; next = refl;
+    turn = a_turn;
+    rest = b_turn ∷ [];
+    next = refl;
     why = no_aim refl (of_package (codes "a") latest)
-      (record { spec = spec.Tag (codes "latest"); says = latest_spec; is = refl })
-      (record { shelf = shelf_with [] []; shows = refl; is = refl }, refl);
+        (record { spec = spec.Tag (codes "latest"); says = latest_spec; is = refl })
+        (record { shelf = shelf_with [] []; shows = refl; is = refl }, refl);
   };
 }
 
@@ -191,7 +200,11 @@ b_pair = (codes "b", codes "catalog:") ∷ []
 
 passes_a : (dependencies : List Pair) (rest : List Turn) → Moves (leads_in (asks dependencies a_pair)) (IsToldNode small) (start (maybe_a ∷ rest)) (record { todo = rest ++ []; met = []; links = a_link ∷ [] })
 passes_a dependencies rest = record {
-  turn = maybe_a; rest = rest; next = refl; to = None; added = [];
+  turn = maybe_a;
+  rest = rest;
+  next = refl;
+  to = None;
+  added = [];
   takes = record { aim = None; aims = a_absent (asks dependencies a_pair); lands = record { at = refl; only = refl } };
   is = refl;
 }
@@ -209,7 +222,9 @@ next_row = record {
   starts = starts b_pair a_pair;
   stopped = record {
     walk = goes (start (maybe_a ∷ b_turn ∷ [])) _ (passes_a b_pair (b_turn ∷ [])) (ends _ refl);
-    turn = b_turn; rest = []; next = refl;
+    turn = b_turn;
+    rest = [];
+    next = refl;
     why = no_aim refl no_entry (record { spec = spec.Catalog (codes "default"); says = catalog_spec; is = refl }) refl;
   };
 }
@@ -226,7 +241,9 @@ project_row = record {
   starts = starts p_pair [];
   stopped = record {
     walk = ends (start (p_turn ∷ [])) refl;
-    turn = p_turn; rest = []; next = refl;
+    turn = p_turn;
+    rest = [];
+    next = refl;
     why = no_aim refl (of_project (codes "p") ws.Any) (record { spec = spec.Workspace any_project; says = any_spec; is = refl }) (refl, refl);
   };
 }
@@ -242,7 +259,11 @@ w_state = record { todo = []; met = []; links = record { turn = w_turn; to = Som
 
 reaches_w : Moves (leads_in (asks w_pair [])) (IsToldNode small) (start (w_turn ∷ [])) w_state
 reaches_w = record {
-  turn = w_turn; rest = []; next = refl; to = Some (at_project 0); added = [];
+  turn = w_turn;
+  rest = [];
+  next = refl;
+  to = Some (at_project 0);
+  added = [];
   takes = record { aim = Some (to_project 0); aims = leads_to_w w_pair []; lands = record { at = refl; only = refl } };
   is = refl;
 }

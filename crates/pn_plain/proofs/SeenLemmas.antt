@@ -1,8 +1,7 @@
 -- What is kept of a manifest.
-use Rattle.std.proofs.Common.{◌≡◌, ℕ, Bool, true, false, List, [], ◌∷◌, ◌++◌, Option, Some, None, refl, sym, ap, ◌∙◌, subst, map, inl, inr}
-use Rattle.std.specs.Prelude.{◌⊎◌, ◌↔◌, ◌||◌, cond, not, filter}
-use Rattle.std.specs.List.{Contains, list_any}
-use Rattle.std.specs.Cmp.{IsEquivalence}
+use Rattle.std.proofs.Common.{◌≡◌, ℕ, Bool, true, false, List, [], ◌∷◌, ◌++◌, Option, Some, None, refl, sym, ap, ◌∙◌, subst, inl, inr}
+use Rattle.std.specs.Prelude.{◌⊎◌, ◌||◌, cond, not, filter}
+use Rattle.std.specs.List.{Contains}
 use Rattle.std.specs.Str.{bytes_eq}
 use Rattle.std.proofs.lemmas.Slice.Eq.{bytes_eq-Decides}
 use Rattle.std.proofs.lemmas.List.Elements.{All-contains, All-contains_itself, All-filter, filter_passes, Contains-append_left, Contains-append_right, Contains-append_cases}
@@ -11,8 +10,8 @@ use Rattle.pn_text.proofs.Bools.{true_false, not_true, or_right}
 use Rattle.pn_text.proofs.Members.{none_in, in_one, in_cons, here, there, from_map, to_map}
 use Rattle.pn_walk.specs.declared.node.Peer.{Peer}
 use Rattle.pn_plain.specs.Said.{Pair, Said}
-use Rattle.pn_plain.specs.Seen.{Owner, a_project, a_package, names, is_among, but, peers_but, own_names, dev_of, one_map, dependency_names, dropped, no_hook, no_rules, IsSeen}
-use Rattle.pn_plain.specs.SeenLaws.{IsIn, IsOwn, IsDependency, SeenWords, IsOnce, AddsNone, HasNoOwn, SeenLaw}
+use Rattle.pn_plain.specs.Seen.{Owner, names, is_among, but, peers_but, own_names, dev_of, one_map, dependency_names, dropped, no_hook, no_rules, IsSeen}
+use Rattle.pn_plain.specs.SeenLaws.{IsIn, IsDependency, SeenWords, IsOnce, AddsNone, HasNoOwn, SeenLaw}
 use Rattle.pn_plain.specs.Told.{Told, IsOverridden, IsToldSeen}
 use Rattle.pn_plain.proofs.PlainLemmas.{one_seen, told_rules}
 
@@ -26,13 +25,15 @@ kept_passes p xs x h = All-contains (λ y. p y ≡ true) (filter p xs) x (filter
 passes_kept : {X : Type 0} (p : X → Bool) (xs : List X) (x : X) → Contains xs x → p x ≡ true → Contains (filter p xs) x
 passes_kept p [] x h e = h
 passes_kept {X} p (y ∷ ys) x h e = elim (p y) as (λ b. p y ≡ b → Contains (cond b (y ∷ filter p ys) (filter p ys)) x) [
-    true ↦ λ is. elim (in_cons y ys x h) [
-      inl same ↦ subst (λ (z : X). Contains (z ∷ filter p ys) x) (sym same) (here x (filter p ys))
-    | inr more ↦ there y (filter p ys) x (passes_kept p ys x more e) ]
+  | true ↦ λ is. elim (in_cons y ys x h) [
+    | inl same ↦ subst (λ (z : X). Contains (z ∷ filter p ys) x) (sym same) (here x (filter p ys))
+    | inr more ↦ there y (filter p ys) x (passes_kept p ys x more e)
+  ]
   | false ↦ λ is. elim (in_cons y ys x h) [
-      inl same ↦ absurd (true_false (p x) e (ap p (sym same) ∙ is))
-    | inr more ↦ passes_kept p ys x more e ]
-  ] refl
+    | inl same ↦ absurd (true_false (p x) e (ap p (sym same) ∙ is))
+    | inr more ↦ passes_kept p ys x more e
+  ]
+] refl
 
 -- names among others
 among : (all : List (List ℕ)) (n : List ℕ) → is_among all n ≡ true → Contains all n
@@ -40,16 +41,16 @@ among all n h = Contains-from_any {eq = bytes_eq} (λ x y e. (bytes_eq-Decides x
 
 not_among : (all : List (List ℕ)) (n : List ℕ) → (Contains all n → ⊥) → not (is_among all n) ≡ true
 not_among all n h = elim (is_among all n) as (λ b. is_among all n ≡ b → not b ≡ true) [
-    true ↦ λ e. absurd (h (among all n e))
+  | true ↦ λ e. absurd (h (among all n e))
   | false ↦ λ e. refl
-  ] refl
+] refl
 
 among_from : (all : List (List ℕ)) (n : List ℕ) → Contains all n → is_among all n ≡ true
 among_from [] n h = absurd (none_in n h)
 among_from (x ∷ xs) n h = elim (in_cons x xs n h) [
-    inl same ↦ first_is (bytes_eq n x) (is_among xs n) ((bytes_eq-Decides n x).1 (sym same))
+  | inl same ↦ first_is (bytes_eq n x) (is_among xs n) ((bytes_eq-Decides n x).1 (sym same))
   | inr more ↦ or_right (bytes_eq n x) (is_among xs n) (among_from xs n more)
-  ]
+]
   where
     first_is : (a b : Bool) → a ≡ true → (a || b) ≡ true
     first_is true b e = refl
@@ -103,17 +104,19 @@ dependency : (owner : Owner) (m : Said) (n : List ℕ) → Contains (dependency_
 dependency owner m n h =
     let o = one_map owner m in
     elim (Contains-append_cases (names o.dependencies) (names o.dev ++ names o.optional) n h) [
-      inl a ↦ inr (inl (in_but (names m.optional) m.dependencies n (in_names o.dependencies n a)))
-    | inr b ↦ elim (Contains-append_cases (names o.dev) (names o.optional) n b) [
-        inl c ↦ inr (inr (in_but (names m.optional ++ names m.dependencies) (dev_of owner m) n (in_names o.dev n c)))
-      | inr d ↦ inl (in_names m.optional n d) ] ]
+      | inl a ↦ inr (inl (in_but (names m.optional) m.dependencies n (in_names o.dependencies n a)))
+      | inr b ↦ elim (Contains-append_cases (names o.dev) (names o.optional) n b) [
+        | inl c ↦ inr (inr (in_but (names m.optional ++ names m.dependencies) (dev_of owner m) n (in_names o.dev n c)))
+        | inr d ↦ inl (in_names m.optional n d)
+      ]
+    ]
 
 -- a name is among these or isn't
 is_or_not : (all : List (List ℕ)) (n : List ℕ) → Contains all n ⊎ (Contains all n → ⊥)
 is_or_not all n = elim (is_among all n) as (λ b. is_among all n ≡ b → Contains all n ⊎ (Contains all n → ⊥)) [
-    true ↦ λ e. inl (among all n e)
+  | true ↦ λ e. inl (among all n e)
   | false ↦ λ e. inr (λ c. true_false (is_among all n) (among_from all n c) e)
-  ] refl
+] refl
 
 as_optional : (owner : Owner) (m : Said) (n : List ℕ) → IsIn m.optional n → Contains (dependency_names (one_map owner m)) n
 as_optional owner m n a =
@@ -124,18 +127,21 @@ as_regular : (owner : Owner) (m : Said) (n : List ℕ) → IsIn m.dependencies n
 as_regular owner m n a =
     let o = one_map owner m in
     elim (is_or_not (names m.optional) n) [
-      inl b ↦ as_optional owner m n (in_names m.optional n b)
-    | inr c ↦ Contains-append_left (names o.dependencies) (names o.dev ++ names o.optional) n (names_in o.dependencies n (a.0, to_but (names m.optional) m.dependencies n a.0 a.1 c)) ]
+      | inl b ↦ as_optional owner m n (in_names m.optional n b)
+      | inr c ↦ Contains-append_left (names o.dependencies) (names o.dev ++ names o.optional) n (names_in o.dependencies n (a.0, to_but (names m.optional) m.dependencies n a.0 a.1 c))
+    ]
 
 as_dev : (owner : Owner) (m : Said) (n : List ℕ) → IsIn (dev_of owner m) n → Contains (dependency_names (one_map owner m)) n
 as_dev owner m n a =
     let o = one_map owner m in
     elim (is_or_not (names m.optional ++ names m.dependencies) n) [
-      inl b ↦ elim (Contains-append_cases (names m.optional) (names m.dependencies) n b) [
-        inl c ↦ as_optional owner m n (in_names m.optional n c)
-      | inr d ↦ as_regular owner m n (in_names m.dependencies n d) ]
-    | inr c ↦ Contains-append_right (names o.dependencies) (names o.dev ++ names o.optional) n (Contains-append_left (names o.dev) (names o.optional) n
-        (names_in o.dev n (a.0, to_but (names m.optional ++ names m.dependencies) (dev_of owner m) n a.0 a.1 c))) ]
+      | inl b ↦ elim (Contains-append_cases (names m.optional) (names m.dependencies) n b) [
+        | inl c ↦ as_optional owner m n (in_names m.optional n c)
+        | inr d ↦ as_regular owner m n (in_names m.dependencies n d)
+      ]
+      | inr c ↦ Contains-append_right (names o.dependencies) (names o.dev ++ names o.optional) n (Contains-append_left (names o.dev) (names o.optional) n
+          (names_in o.dev n (a.0, to_but (names m.optional ++ names m.dependencies) (dev_of owner m) n a.0 a.1 c)))
+    ]
 
 is_dependency : (owner : Owner) (m : Said) (n : List ℕ) → IsDependency owner m n → Contains (dependency_names (one_map owner m)) n
 is_dependency owner m n (inl a) = as_optional owner m n a
@@ -193,26 +199,35 @@ seen_peers t owner m s p h c d =
 words : (owner : Owner) (m : Said) → SeenWords owner m (dropped (dependency_names (one_map owner m)) (one_map owner m))
 words owner m = record {
   optional = λ n t. (
-      λ h. let k = from_but (own_names m.name) m.optional n t h in (k.0, λ e. k.1 (is_own m.name n e)),
-      λ k. to_but (own_names m.name) m.optional n t k.0 (λ c. k.1 (own_is m.name n c)));
+    λ h. let k = from_but (own_names m.name) m.optional n t h in (k.0, λ e. k.1 (is_own m.name n e)),
+    λ k. to_but (own_names m.name) m.optional n t k.0 (λ c. k.1 (own_is m.name n c)),
+  );
   dependencies = λ n t. (
-      λ h. let k = from_but (own_names m.name) (one_map owner m).dependencies n t h in
+    λ h. let k = from_but (own_names m.name) (one_map owner m).dependencies n t h in
         let j = from_but (names m.optional) m.dependencies n t k.0 in
         (j.0, λ o. j.1 (names_in m.optional n o), λ e. k.1 (is_own m.name n e)),
-      λ k. to_but (own_names m.name) (one_map owner m).dependencies n t (to_but (names m.optional) m.dependencies n t k.0 (λ c. k.1 (in_names m.optional n c))) (λ c. k.2 (own_is m.name n c)));
+    λ k. to_but (own_names m.name) (one_map owner m).dependencies n t (to_but (names m.optional) m.dependencies n t k.0 (λ c. k.1 (in_names m.optional n c))) (λ c. k.2 (own_is m.name n c)),
+  );
   dev = λ n t. (
-      λ h. let k = from_but (own_names m.name) (one_map owner m).dev n t h in
-        let j = from_but (names m.optional ++ names m.dependencies) (dev_of owner m) n t k.0 in
-        (j.0, λ o. j.1 (Contains-append_left (names m.optional) (names m.dependencies) n (names_in m.optional n o)),
-          λ d. j.1 (Contains-append_right (names m.optional) (names m.dependencies) n (names_in m.dependencies n d)), λ e. k.1 (is_own m.name n e)),
-      λ k. to_but (own_names m.name) (one_map owner m).dev n t (to_but (names m.optional ++ names m.dependencies) (dev_of owner m) n t k.0
-        (λ c. elim (Contains-append_cases (names m.optional) (names m.dependencies) n c) [ inl a ↦ k.1 (in_names m.optional n a) | inr b ↦ k.2 (in_names m.dependencies n b) ])) (λ c. k.3 (own_is m.name n c)));
+    λ h. let k = from_but (own_names m.name) (one_map owner m).dev n t h in
+        let j = from_but (names m.optional ++ names m.dependencies) (dev_of owner m) n t k.0 in (
+          j.0,
+          λ o. j.1 (Contains-append_left (names m.optional) (names m.dependencies) n (names_in m.optional n o)),
+          λ d. j.1 (Contains-append_right (names m.optional) (names m.dependencies) n (names_in m.dependencies n d)),
+          λ e. k.1 (is_own m.name n e),
+        ),
+    λ k. to_but (own_names m.name) (one_map owner m).dev n t (to_but (names m.optional ++ names m.dependencies) (dev_of owner m) n t k.0
+        (λ c. elim (Contains-append_cases (names m.optional) (names m.dependencies) n c) [ inl a ↦ k.1 (in_names m.optional n a) | inr b ↦ k.2 (in_names m.dependencies n b) ])) (λ c. k.3 (own_is m.name n c)),
+  );
   peers = λ p. (
-      λ h. let k = from_peers (own_names m.name ++ dependency_names (one_map owner m)) m.peers p h in
-        (k.0, λ e. k.1 (Contains-append_left (own_names m.name) (dependency_names (one_map owner m)) p.name (is_own m.name p.name e)),
-          λ d. k.1 (Contains-append_right (own_names m.name) (dependency_names (one_map owner m)) p.name (is_dependency owner m p.name d))),
-      λ k. to_peers (own_names m.name ++ dependency_names (one_map owner m)) m.peers p k.0
-        (λ c. elim (Contains-append_cases (own_names m.name) (dependency_names (one_map owner m)) p.name c) [ inl a ↦ k.1 (own_is m.name p.name a) | inr b ↦ k.2 (dependency owner m p.name b) ]));
+    λ h. let k = from_peers (own_names m.name ++ dependency_names (one_map owner m)) m.peers p h in (
+      k.0,
+      λ e. k.1 (Contains-append_left (own_names m.name) (dependency_names (one_map owner m)) p.name (is_own m.name p.name e)),
+      λ d. k.1 (Contains-append_right (own_names m.name) (dependency_names (one_map owner m)) p.name (is_dependency owner m p.name d)),
+    ),
+    λ k. to_peers (own_names m.name ++ dependency_names (one_map owner m)) m.peers p k.0
+        (λ c. elim (Contains-append_cases (own_names m.name) (dependency_names (one_map owner m)) p.name c) [ inl a ↦ k.1 (own_is m.name p.name a) | inr b ↦ k.2 (dependency owner m p.name b) ]),
+  );
 }
 
 seen_words : (owner : Owner) (m s : Said) → IsSeen no_hook no_rules owner m s → SeenWords owner m s

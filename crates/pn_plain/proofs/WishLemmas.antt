@@ -1,5 +1,5 @@
 -- What a seen manifest asks for.
-use Rattle.std.proofs.Common.{◌≡◌, ℕ, Bool, true, false, List, [], ◌∷◌, ◌++◌, refl, sym, ap, ◌∙◌, subst, map, inl, inr, if◌then◌else◌}
+use Rattle.std.proofs.Common.{◌≡◌, ℕ, Bool, true, false, List, [], ◌∷◌, ◌++◌, refl, sym, ap, subst, map, inl, inr, if◌then◌else◌}
 use Rattle.std.specs.Prelude.{◌⊎◌, cond, not, filter}
 use Rattle.std.specs.Cmp.Lexicographic.{slice_cmp}
 use Rattle.std.specs.List.{Contains, AllByRecursion}
@@ -26,41 +26,43 @@ use Rattle.pn_plain.proofs.SeenLemmas.{in_names}
 from_put : (w : Wish) (ws : List Wish) (x : Wish) → Contains (put_wish w ws) x → (w ≡ x) ⊎ Contains ws x
 from_put w [] x h = in_cons w [] x h
 from_put w (y ∷ ys) x h = elim (is_lt (slice_cmp nat_cmp w.alias y.alias)) as (λ b. Contains (if b then w ∷ y ∷ ys else y ∷ put_wish w ys) x → (w ≡ x) ⊎ Contains (y ∷ ys) x) [
-    true ↦ λ k. in_cons w (y ∷ ys) x k
+  | true ↦ λ k. in_cons w (y ∷ ys) x k
   | false ↦ λ k. elim (in_cons y (put_wish w ys) x k) [
-      inl e ↦ inr (subst (λ (z : Wish). Contains (y ∷ ys) z) e (here y ys))
-    | inr more ↦ elim (from_put w ys x more) [ inl e ↦ inl e | inr c ↦ inr (there y ys x c) ] ]
-  ] h
+    | inl e ↦ inr (subst (λ (z : Wish). Contains (y ∷ ys) z) e (here y ys))
+    | inr more ↦ elim (from_put w ys x more) [ inl e ↦ inl e | inr c ↦ inr (there y ys x c) ]
+  ]
+] h
 
 put_there : (w : Wish) (ws : List Wish) → Contains (put_wish w ws) w
 put_there w [] = here w []
 put_there w (y ∷ ys) = elim (is_lt (slice_cmp nat_cmp w.alias y.alias)) as (λ b. Contains (if b then w ∷ y ∷ ys else y ∷ put_wish w ys) w) [
-    true ↦ here w (y ∷ ys)
+  | true ↦ here w (y ∷ ys)
   | false ↦ there y (put_wish w ys) w (put_there w ys)
-  ]
+]
 
 put_keeps : (w : Wish) (ws : List Wish) (x : Wish) → Contains ws x → Contains (put_wish w ws) x
 put_keeps w [] x h = absurd (none_in x h)
 put_keeps w (y ∷ ys) x h = elim (is_lt (slice_cmp nat_cmp w.alias y.alias)) as (λ b. Contains (if b then w ∷ y ∷ ys else y ∷ put_wish w ys) x) [
-    true ↦ there w (y ∷ ys) x h
+  | true ↦ there w (y ∷ ys) x h
   | false ↦ elim (in_cons y ys x h) [
-      inl e ↦ subst (λ (z : Wish). Contains (y ∷ put_wish w ys) z) e (here y (put_wish w ys))
-    | inr c ↦ there y (put_wish w ys) x (put_keeps w ys x c) ]
+    | inl e ↦ subst (λ (z : Wish). Contains (y ∷ put_wish w ys) z) e (here y (put_wish w ys))
+    | inr c ↦ there y (put_wish w ys) x (put_keeps w ys x c)
   ]
+]
 
 from_puts : (ws rest : List Wish) (x : Wish) → Contains (put_wishes ws rest) x → Contains ws x ⊎ Contains rest x
 from_puts [] rest x h = inr h
 from_puts (w ∷ ws) rest x h = elim (from_put w (put_wishes ws rest) x h) [
-    inl e ↦ inl (subst (λ (z : Wish). Contains (w ∷ ws) z) e (here w ws))
+  | inl e ↦ inl (subst (λ (z : Wish). Contains (w ∷ ws) z) e (here w ws))
   | inr more ↦ elim (from_puts ws rest x more) [ inl c ↦ inl (there w ws x c) | inr d ↦ inr d ]
-  ]
+]
 
 puts_first : (ws rest : List Wish) (x : Wish) → Contains ws x → Contains (put_wishes ws rest) x
 puts_first [] rest x h = absurd (none_in x h)
 puts_first (w ∷ ws) rest x h = elim (in_cons w ws x h) [
-    inl e ↦ subst (λ (z : Wish). Contains (put_wish w (put_wishes ws rest)) z) e (put_there w (put_wishes ws rest))
+  | inl e ↦ subst (λ (z : Wish). Contains (put_wish w (put_wishes ws rest)) z) e (put_there w (put_wishes ws rest))
   | inr c ↦ put_keeps w (put_wishes ws rest) x (puts_first ws rest x c)
-  ]
+]
 
 puts_rest : (ws rest : List Wish) (x : Wish) → Contains rest x → Contains (put_wishes ws rest) x
 puts_rest [] rest x h = h
@@ -85,18 +87,20 @@ below_further a b (c ∷ cs) h k = (nat_list_cmp_total.trans a b c h k.0, below_
 below_put : (a : List ℕ) (w : Wish) (ws : List Wish) → slice_cmp nat_cmp a w.alias ≡ Less → IsBelowAll a (aliases ws) → IsBelowAll a (aliases (put_wish w ws))
 below_put a w [] h k = (h, tt)
 below_put a w (y ∷ ys) h k = elim (is_lt (slice_cmp nat_cmp w.alias y.alias)) as (λ b. IsBelowAll a (aliases (if b then w ∷ y ∷ ys else y ∷ put_wish w ys))) [
-    true ↦ (h, k)
+  | true ↦ (h, k)
   | false ↦ (k.0, below_put a w ys h k.1)
-  ]
+]
 
 put_rises : (w : Wish) (ws : List Wish) → AreRising (aliases ws) → (Contains (aliases ws) w.alias → ⊥) → AreRising (aliases (put_wish w ws))
 unfolding IsStrictlySortedBy
 put_rises w [] h n = (tt, tt)
 put_rises w (y ∷ ys) h n = elim (is_lt (slice_cmp nat_cmp w.alias y.alias)) as (λ b. is_lt (slice_cmp nat_cmp w.alias y.alias) ≡ b → AreRising (aliases (if b then w ∷ y ∷ ys else y ∷ put_wish w ys))) [
-    true ↦ λ e. let less = is_less (slice_cmp nat_cmp w.alias y.alias) e in ((less, below_further w.alias y.alias (aliases ys) less h.0), h)
-  | false ↦ λ e. (below_put y.alias w ys (is_after w.alias y.alias e (λ same. n (subst (λ (a : List ℕ). Contains (y.alias ∷ aliases ys) a) same (here y.alias (aliases ys))))) h.0,
-      put_rises w ys h.1 (λ c. n (there y.alias (aliases ys) w.alias c)))
-  ] refl
+  | true ↦ λ e. let less = is_less (slice_cmp nat_cmp w.alias y.alias) e in ((less, below_further w.alias y.alias (aliases ys) less h.0), h)
+  | false ↦ λ e. (
+    below_put y.alias w ys (is_after w.alias y.alias e (λ same. n (subst (λ (a : List ℕ). Contains (y.alias ∷ aliases ys) a) same (here y.alias (aliases ys))))) h.0,
+    put_rises w ys h.1 (λ c. n (there y.alias (aliases ys) w.alias c)),
+  )
+] refl
 
 -- a name isn't among those behind it
 head_once : (a : List ℕ) (bs : List (List ℕ)) → AreRising (a ∷ bs) → Contains bs a → ⊥
@@ -106,8 +110,9 @@ alias_in : (ws rest : List Wish) (n : List ℕ) → Contains (aliases (put_wishe
 alias_in ws rest n h =
     let m = from_map (λ (w : Wish). w.alias) (put_wishes ws rest) n h in
     elim (from_puts ws rest m.0 m.1) [
-      inl c ↦ inl (subst (λ (a : List ℕ). Contains (aliases ws) a) m.2 (to_map (λ (w : Wish). w.alias) ws m.0 c))
-    | inr d ↦ inr (subst (λ (a : List ℕ). Contains (aliases rest) a) m.2 (to_map (λ (w : Wish). w.alias) rest m.0 d)) ]
+      | inl c ↦ inl (subst (λ (a : List ℕ). Contains (aliases ws) a) m.2 (to_map (λ (w : Wish). w.alias) ws m.0 c))
+      | inr d ↦ inr (subst (λ (a : List ℕ). Contains (aliases rest) a) m.2 (to_map (λ (w : Wish). w.alias) rest m.0 d))
+    ]
 
 puts_rise : (ws rest : List Wish) → AreRising (aliases ws) → AreRising (aliases rest) → ((n : List ℕ) → Contains (aliases ws) n → Contains (aliases rest) n → ⊥) → AreRising (aliases (put_wishes ws rest))
 unfolding IsStrictlySortedBy
@@ -115,8 +120,9 @@ puts_rise [] rest h k apart = k
 puts_rise (w ∷ ws) rest h k apart =
     put_rises w (put_wishes ws rest) (puts_rise ws rest h.1 k (λ n c d. apart n (there w.alias (aliases ws) n c) d))
     (λ c. elim (alias_in ws rest w.alias c) [
-      inl a ↦ head_once w.alias (aliases ws) h a
-    | inr b ↦ apart w.alias (here w.alias (aliases ws)) b ])
+      | inl a ↦ head_once w.alias (aliases ws) h a
+      | inr b ↦ apart w.alias (here w.alias (aliases ws)) b
+    ])
 
 -- the aliases of a map's wishes are its names
 aliases_are : (o : Bool) (pairs : List Pair) → aliases (map (wish o) pairs) ≡ names pairs
@@ -137,25 +143,29 @@ rising m h once =
     let none : (n : List ℕ) → Contains (aliases optional) n → Contains (aliases []) n → ⊥ = λ n c d. none_in n d in
     let last : AreRising (aliases (put_wishes optional [])) = puts_rise optional [] (map_rises true m.optional h.optional) tt none in
     let in_last : (n : List ℕ) → Contains (aliases (put_wishes optional [])) n → IsIn m.optional n =
-      λ n c. elim (alias_in optional [] n c) [ inl a ↦ alias_is_in true m.optional n a | inr b ↦ absurd (none_in n b) ] in
+    λ n c. elim (alias_in optional [] n c) [ inl a ↦ alias_is_in true m.optional n a | inr b ↦ absurd (none_in n b) ] in
     let later : AreRising (aliases (put_wishes dev (put_wishes optional []))) =
-      puts_rise dev (put_wishes optional []) (map_rises false m.dev h.dev) last (λ n c d. once.dev n (in_last n d) (alias_is_in false m.dev n c)) in
+    puts_rise dev (put_wishes optional []) (map_rises false m.dev h.dev) last (λ n c d. once.dev n (in_last n d) (alias_is_in false m.dev n c)) in
     puts_rise (map (wish false) m.dependencies) (put_wishes dev (put_wishes optional [])) (map_rises false m.dependencies h.dependencies) later
     (λ n c d. elim (alias_in dev (put_wishes optional []) n d) [
-      inl a ↦ once.either n (alias_is_in false m.dependencies n c) (alias_is_in false m.dev n a)
-    | inr b ↦ once.dependencies n (in_last n b) (alias_is_in false m.dependencies n c) ])
+      | inl a ↦ once.either n (alias_is_in false m.dependencies n c) (alias_is_in false m.dev n a)
+      | inr b ↦ once.dependencies n (in_last n b) (alias_is_in false m.dependencies n c)
+    ])
 
 sound : (m : Said) (w : Wish) → Contains (wishes_of m) w → IsWishOf m w
 sound m w h =
     let opt = map (wish true) m.optional in
     let devs = map (wish false) m.dev in
     elim (from_puts (map (wish false) m.dependencies) (put_wishes devs (put_wishes opt [])) w h) [
-      inl a ↦ let e = from_map (wish false) m.dependencies w a in regular e.0 e.1 (sym e.2)
-    | inr b ↦ elim (from_puts devs (put_wishes opt []) w b) [
-        inl c ↦ let e = from_map (wish false) m.dev w c in dev e.0 e.1 (sym e.2)
-      | inr d ↦ elim (from_puts opt [] w d) [
-          inl f ↦ let e = from_map (wish true) m.optional w f in optional e.0 e.1 (sym e.2)
-        | inr g ↦ absurd (none_in w g) ] ] ]
+      | inl a ↦ let e = from_map (wish false) m.dependencies w a in regular e.0 e.1 (sym e.2)
+      | inr b ↦ elim (from_puts devs (put_wishes opt []) w b) [
+        | inl c ↦ let e = from_map (wish false) m.dev w c in dev e.0 e.1 (sym e.2)
+        | inr d ↦ elim (from_puts opt [] w d) [
+          | inl f ↦ let e = from_map (wish true) m.optional w f in optional e.0 e.1 (sym e.2)
+          | inr g ↦ absurd (none_in w g)
+        ]
+      ]
+    ]
 
 complete : (m : Said) (w : Wish) → IsWishOf m w → Contains (wishes_of m) w
 complete m w (regular e c i) =
@@ -173,16 +183,16 @@ is_left all n = not (is_among all n)
 left_names : (all : List (List ℕ)) (pairs : List Pair) → names (but all pairs) ≡ filter (is_left all) (names pairs)
 left_names all [] = refl
 left_names all (e ∷ es) = elim (is_left all e.0) as (λ b. names (cond b (e ∷ but all es) (but all es)) ≡ cond b (e.0 ∷ filter (is_left all) (names es)) (filter (is_left all) (names es))) [
-    true ↦ ap (λ (ns : List (List ℕ)). e.0 ∷ ns) (left_names all es)
+  | true ↦ ap (λ (ns : List (List ℕ)). e.0 ∷ ns) (left_names all es)
   | false ↦ left_names all es
-  ]
+]
 
 left_peers : (all : List (List ℕ)) (peers : List Peer) → peer_names (peers_but all peers) ≡ filter (is_left all) (peer_names peers)
 left_peers all [] = refl
 left_peers all (p ∷ ps) = elim (is_left all p.name) as (λ b. peer_names (cond b (p ∷ peers_but all ps) (peers_but all ps)) ≡ cond b (p.name ∷ filter (is_left all) (peer_names ps)) (filter (is_left all) (peer_names ps))) [
-    true ↦ ap (λ (ns : List (List ℕ)). p.name ∷ ns) (left_peers all ps)
+  | true ↦ ap (λ (ns : List (List ℕ)). p.name ∷ ns) (left_peers all ps)
   | false ↦ left_peers all ps
-  ]
+]
 
 left_rises : (all : List (List ℕ)) (pairs : List Pair) → AreRising (names pairs) → AreRising (names (but all pairs))
 left_rises all pairs h = subst AreRising (sym (left_names all pairs)) (IsStrictlySortedBy-filter (slice_cmp nat_cmp) (is_left all) (names pairs) h)

@@ -1,5 +1,5 @@
 -- What a plain graph is made from, beside what the registry shows.
-use Rattle.std.specs.Prelude.{ℕ, List, [], ◌∷◌, Option, Some, None, if◌then◌else◌, option_and_then, slice_get, codes}
+use Rattle.std.specs.Prelude.{ℕ, List, [], ◌∷◌, Option, if◌then◌else◌, option_and_then, slice_get, codes}
 use Rattle.std.specs.Str.{bytes_eq}
 use Rattle.semver.specs.Parse.{Parts}
 use Rattle.pn_spec.specs.declared.entry.CatalogEntry.{CatalogEntry}

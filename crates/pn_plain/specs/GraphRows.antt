@@ -1,13 +1,13 @@
 -- Small plain graphs. One package b@1.0.0 is published, under the tag `latest`; of other names nothing is.
-use Rattle.std.specs.Prelude.{◌≡◌, ℕ, Bool, true, false, List, [], ◌∷◌, Option, Some, None, Result, Ok, Err, if◌then◌else◌, codes}
+use Rattle.std.specs.Prelude.{ℕ, Bool, true, false, List, [], ◌∷◌, Some, None, Result, Ok, Err, if◌then◌else◌, codes}
 use Rattle.std.specs.Str.{bytes_eq}
 use Rattle.pn_walk.specs.declared.node.Node.{Node}
 use Rattle.pn_walk.specs.declared.wish.Place.TheVariants.{Project as at_project, Package as at_package}
 use Rattle.pn_walk.specs.Wants.{Id}
-use Rattle.pn_walk.specs.Walks.{Turn, State, turn_by}
+use Rattle.pn_walk.specs.Walks.{Turn, turn_by}
 use Rattle.pn_published.specs.Shelves.{Shelf, shelf_with}
-use Rattle.pn_plain.specs.Causes.{Cause, no_version, no_catalog, no_project}
-use Rattle.pn_plain.specs.Plains.{Project, Inputs}
+use Rattle.pn_plain.specs.Causes.{no_version, no_catalog, no_project}
+use Rattle.pn_plain.specs.Plains.{Inputs}
 use Rattle.pn_plain.specs.Rows.{said_with, release}
 use Rattle.pn_plain.specs.Said.{Pair, Said}
 use Rattle.pn_plain.specs.Seen.{no_hook, wish}
@@ -26,7 +26,9 @@ small = record { shelf = one_shelf; manifest = one_manifest; hook = no_hook; ove
 abbrev pub asks : List Pair → List Pair → Inputs
 asks dependencies optional = record {
   projects = record { folder = codes "."; said = said_with (Some (codes "w")) dependencies [] optional [] } ∷ [];
-  held = []; catalogs = []; auto_peers = false;
+  held = [];
+  catalogs = [];
+  auto_peers = false;
 }
 
 abbrev pub asked : Bool → List ℕ → List ℕ → Turn

@@ -1,5 +1,5 @@
 -- Seen manifests, readings and choices, computed.
-use Rattle.std.specs.Prelude.{◌≡◌, ◌+◌, nat_lt, nat_le, ℕ, Bool, true, false, List, [], ◌∷◌, ◌++◌, map, Option, Some, None, if◌then◌else◌, codes, refl}
+use Rattle.std.specs.Prelude.{◌≡◌, ℕ, Bool, true, false, List, [], ◌∷◌, Option, Some, None, codes, refl}
 use Rattle.std.specs.Fmt.{digits}
 use Rattle.semver.specs.Parse.{Parts, digits_from}
 use Rattle.pn_ranges.specs.Limits.{Limit}
@@ -10,19 +10,25 @@ use Rattle.pn_spec.specs.declared.want.Want.TheVariants as want
 use Rattle.pn_spec.specs.declared.workspace.WsWant.TheVariants as ws
 use Rattle.pn_published.specs.Shelves.{Shelf, shelf_with}
 use Rattle.pn_walk.specs.declared.node.Peer.{Peer}
-use Rattle.pn_walk.specs.declared.wish.Wish.{Wish}
 use Rattle.pn_plain.specs.Aims.{id_at}
 use Rattle.pn_plain.specs.Given.{Named, version_of}
-use Rattle.pn_plain.specs.Readings.{Reading, of_package, of_project, no_entry, reading, Bearer, one, nobody, two, bearing, bearer}
+use Rattle.pn_plain.specs.Readings.{of_package, reading, one, nobody, two, bearing, bearer}
 use Rattle.pn_plain.specs.Said.{Pair, Said}
-use Rattle.pn_plain.specs.Seen.{Owner, a_project, a_package, no_hook, IsSeen, seen, counted, wish, wishes_of}
+use Rattle.pn_plain.specs.Seen.{a_project, a_package, no_hook, IsSeen, seen, counted, wish, wishes_of}
 
 -- a manifest with these dependencies and peers
 abbrev pub said_with : Option (List ℕ) → List Pair → List Pair → List Pair → List Peer → Said
 said_with name dependencies dev optional peers = record {
-  name = name; version = None;
-  dependencies = dependencies; dev = dev; optional = optional; peers = peers;
-  scripts = []; bins = []; injected = []; overrides = [];
+  name = name;
+  version = None;
+  dependencies = dependencies;
+  dev = dev;
+  optional = optional;
+  peers = peers;
+  scripts = [];
+  bins = [];
+  injected = [];
+  overrides = [];
 }
 
 abbrev pub peer : List ℕ → Bool → Peer
