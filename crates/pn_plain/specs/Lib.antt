@@ -7,6 +7,7 @@ pub mod Causes
 pub mod Plains
 pub mod Told
 pub mod PlainLaws
+pub mod AimLaws
 pub mod SeenLaws
 pub mod WishLaws
 pub mod Rows
