@@ -1,5 +1,5 @@
 -- Small plain graphs, edge by edge.
-use Rattle.std.proofs.Common.{◌≡◌, ℕ, true, false, List, [], ◌∷◌, Option, Some, None, refl, arith, map, ◌++◌, inr, codes}
+use Rattle.std.proofs.Common.{◌≡◌, ℕ, true, false, List, [], ◌∷◌, Option, Some, None, refl, arith, map, ◌++◌, inr, codes, Ok}
 use Rattle.std.specs.Fmt.{digits}
 use Rattle.pn_ranges.proofs.Stopped.{no-byte, ranges-form}
 use Rattle.pn_spec.specs.Forms.{IsSpec, IsTag}
@@ -8,20 +8,21 @@ use Rattle.pn_spec.specs.declared.want.Want.{Want}
 use Rattle.pn_spec.specs.declared.want.Want.TheVariants as want
 use Rattle.pn_spec.specs.declared.workspace.WsSpec.{WsSpec}
 use Rattle.pn_spec.specs.declared.workspace.WsWant.TheVariants as ws
+use Rattle.pn_walk.specs.declared.node.Node.{Node}
 use Rattle.pn_walk.specs.declared.wish.Wish.{Wish}
 use Rattle.pn_walk.specs.declared.wish.Aim.{Aim}
 use Rattle.pn_walk.specs.declared.wish.Aim.TheVariants.{Project as to_project, Package as to_package}
 use Rattle.pn_walk.specs.declared.wish.Place.TheVariants.{Project as at_project, Package as at_package}
 use Rattle.pn_walk.specs.Walks.{Turn, Link, State, turn_by, start, Moves, ends, goes}
 use Rattle.pn_published.specs.Shelves.{shelf_with}
-use Rattle.pn_plain.specs.Aims.{Leads}
-use Rattle.pn_plain.specs.Causes.{no_version, no_catalog, no_project, no_aim}
-use Rattle.pn_plain.specs.GraphRows.{small, asks, asked, b_met, GraphRows}
+use Rattle.pn_plain.specs.Aims.{Leads, id_at}
+use Rattle.pn_plain.specs.Causes.{no_version, no_catalog, no_project, two_projects, registry, no_aim, not_met}
+use Rattle.pn_plain.specs.GraphRows.{no_versions, one_version, said_of, latest_of, small, asks, asked, link_to, b_met, x_met, y_met, twins, GraphRows}
 use Rattle.pn_plain.specs.Plains.{Inputs, given_by, AreStarts, no_more, one_more}
 use Rattle.pn_plain.specs.Readings.{of_package, of_project, no_entry}
 use Rattle.pn_plain.specs.Rows.{said_with, release}
-use Rattle.pn_plain.specs.Said.{Pair}
-use Rattle.pn_plain.specs.Seen.{a_project, seen, wishes_of}
+use Rattle.pn_plain.specs.Said.{Pair, Said}
+use Rattle.pn_plain.specs.Seen.{a_project, a_package, seen, wish, wishes_of}
 use Rattle.pn_plain.specs.Told.{IsToldShelf, IsToldNode, IsToldPlain, IsToldUnplain, IsOverridden}
 
 latest_tag : IsTag (codes "latest") (codes "latest")
@@ -63,26 +64,35 @@ starts dependencies optional =
     (seen a_project (said_with (Some (codes "w")) dependencies [] optional [])) []
     (record { overridden = _; by_rules = refl; is = refl }) (no_more 1)
 
-b_is : IsToldNode small b_met
-b_is = record {
-  said = said_with (Some (codes "b")) [] [] [] [];
-  says = refl;
-  face = said_with (Some (codes "b")) [] [] [] [];
+node_is : (n : Node) (s : Said) → small.manifest n.id ≡ Ok s → n.wishes ≡ wishes_of (seen a_package s) → n.peers ≡ (seen a_package s).peers → IsToldNode small n
+node_is n s says wishes peers = record {
+  said = s;
+  says = says;
+  face = seen a_package s;
   seen = record { overridden = _; by_rules = refl; is = refl };
-  wishes = refl;
-  peers = refl;
+  wishes = wishes;
+  peers = peers;
 }
+
+b_is : IsToldNode small b_met
+b_is = node_is b_met (said_of (codes "b") []) refl refl refl
+
+x_is : IsToldNode small x_met
+x_is = node_is x_met (said_of (codes "x") (latest_of (codes "y") ∷ [])) refl refl refl
+
+y_is : IsToldNode small y_met
+y_is = node_is y_met (said_of (codes "y") (latest_of (codes "x") ∷ [])) refl refl refl
 
 abbrev leads_in : Inputs → Wish → Option Aim → Type 0
 leads_in i = Leads (IsToldShelf small) (given_by i)
 
 -- a wish for `npm:b@latest` leads to b
-leads_to_b : (i : Inputs) → i.held ≡ [] → (alias : List ℕ) → leads_in i (asked false alias (codes "npm:b@latest")).wish (Some (to_package (codes "b@1.0.0")))
+leads_to_b : (i : Inputs) (alias : List ℕ) → leads_in i (asked false alias (codes "npm:b@latest")).wish (Some (to_package (codes "b@1.0.0")))
 unfolding digits
-leads_to_b i none alias = (
+leads_to_b i alias = (
   of_package (codes "b") latest,
   record { spec = spec.Alias (codes "b") latest; says = alias_spec; is = refl },
-  (Some (release 1 0 0), record { shelf = shelf_with (release 1 0 0 ∷ []) []; shows = refl; is = refl }, refl),
+  (Some (release 1 0 0), record { shelf = one_version; shows = refl; is = refl }, refl),
 )
 
 -- an optional wish for a leads nowhere
@@ -90,7 +100,7 @@ a_absent : (i : Inputs) → leads_in i (asked true (codes "a") (codes "latest"))
 a_absent i = (
   of_package (codes "a") latest,
   record { spec = spec.Tag (codes "latest"); says = latest_spec; is = refl },
-  (None, record { shelf = shelf_with [] []; shows = refl; is = refl }, (refl, refl)),
+  (None, record { shelf = no_versions; shows = refl; is = refl }, (refl, refl)),
 )
 
 leads_to_w : (dependencies optional : List Pair) → leads_in (asks dependencies optional) (asked false (codes "p") (codes "workspace:w@^")).wish (Some (to_project 0))
@@ -133,7 +143,7 @@ meets_b = record {
   added = b_met ∷ [];
   takes = record {
     aim = Some (to_package (codes "b@1.0.0"));
-    aims = leads_to_b alias_inputs refl (codes "c");
+    aims = leads_to_b alias_inputs (codes "c");
     lands = record { new = b_met; is = b_is; here = refl; room = omega arith; at = refl; only = refl };
   };
   is = refl;
@@ -148,7 +158,7 @@ finds_b = record {
   added = [];
   takes = record {
     aim = Some (to_package (codes "b@1.0.0"));
-    aims = leads_to_b alias_inputs refl (codes "d");
+    aims = leads_to_b alias_inputs (codes "d");
     lands = record { at = refl; only = refl };
   };
   is = refl;
@@ -182,7 +192,7 @@ first_row = record {
     next = refl;
     why = no_aim refl (of_package (codes "a") latest)
         (record { spec = spec.Tag (codes "latest"); says = latest_spec; is = refl })
-        (record { shelf = shelf_with [] []; shows = refl; is = refl }, refl);
+        (record { shelf = no_versions; shows = refl; is = refl }, refl);
   };
 }
 
@@ -275,5 +285,230 @@ itself_row = record {
   walked = record { walk = goes (start (w_turn ∷ [])) w_state reaches_w (ends w_state refl); none = refl };
 }
 
+nowhere_row : IsToldPlain small (asks [] p_pair) (record { todo = []; met = []; links = link_to (asked true (codes "p") (codes "workspace:*")) None ∷ [] })
+nowhere_row = record {
+  own = asked true (codes "p") (codes "workspace:*") ∷ [];
+  starts = starts [] p_pair;
+  walked = record {
+    walk = goes (start (asked true (codes "p") (codes "workspace:*") ∷ [])) _ passes (ends _ refl);
+    none = refl;
+  };
+}
+  where
+    passes : Moves (leads_in (asks [] p_pair)) (IsToldNode small) (start (asked true (codes "p") (codes "workspace:*") ∷ [])) (record { todo = []; met = []; links = link_to (asked true (codes "p") (codes "workspace:*")) None ∷ [] })
+    passes = record {
+      turn = asked true (codes "p") (codes "workspace:*");
+      rest = [];
+      next = refl;
+      to = None;
+      added = [];
+      takes = record {
+        aim = None;
+        aims = (of_project (codes "p") ws.Any, record { spec = spec.Workspace any_project; says = any_spec; is = refl }, (refl, refl));
+        lands = record { at = refl; only = refl };
+      };
+      is = refl;
+    }
+
+abbrev caret_project : WsSpec
+caret_project = record { name = None; want = ws.Caret }
+
+caret_spec : IsSpec (codes "workspace:^") (spec.Workspace caret_project)
+caret_spec = (codes "^", refl, refl)
+
+abbrev v_turn : Turn
+v_turn = asked true (codes "v") (codes "workspace:^")
+
+abbrev nothing_said : Said
+nothing_said = said_of (codes "v") []
+
+twin_starts : AreStarts small.hook (IsOverridden small) false 0 twins.projects (v_turn ∷ [])
+twin_starts =
+    one_more 0 _ _ (said_with (Some (codes "w")) [] [] ((codes "v", codes "workspace:^") ∷ []) []) [] (record { overridden = _; by_rules = refl; is = refl })
+    (one_more 1 _ _ nothing_said [] (record { overridden = _; by_rules = refl; is = refl })
+    (one_more 2 _ _ nothing_said [] (record { overridden = _; by_rules = refl; is = refl }) (no_more 3)))
+
+two_row : IsToldUnplain small twins (start (v_turn ∷ [])) (two_projects 1 2)
+two_row = record {
+  own = v_turn ∷ [];
+  starts = twin_starts;
+  stopped = record {
+    walk = ends (start (v_turn ∷ [])) refl;
+    turn = v_turn;
+    rest = [];
+    next = refl;
+    why = no_aim refl (of_project (codes "v") ws.Caret) (record { spec = spec.Workspace caret_project; says = caret_spec; is = refl }) refl;
+  };
+}
+
+-- a wish for the tag `latest` of a name with one version
+leads_latest : (i : Inputs) (n : List ℕ) → small.shelf n ≡ Ok one_version → leads_in i (wish false (latest_of n)) (Some (to_package (id_at n (release 1 0 0))))
+leads_latest i n shows = (
+  of_package n latest,
+  record { spec = spec.Tag (codes "latest"); says = latest_spec; is = refl },
+  (Some (release 1 0 0), record { shelf = one_version; shows = shows; is = refl }, refl),
+)
+
+abbrev e_pairs : List Pair
+e_pairs = latest_of (codes "e") ∷ (codes "f", codes "catalog:") ∷ []
+
+abbrev e_turns : List Turn
+e_turns = asked false (codes "e") (codes "latest") ∷ asked false (codes "f") (codes "catalog:") ∷ []
+
+unread_row : IsToldUnplain small (asks e_pairs []) (start e_turns) (registry 1)
+unfolding digits
+unread_row = record {
+  own = e_turns;
+  starts = starts e_pairs [];
+  stopped = record {
+    walk = ends (start e_turns) refl;
+    turn = asked false (codes "e") (codes "latest");
+    rest = asked false (codes "f") (codes "catalog:") ∷ [];
+    next = refl;
+    why = not_met (codes "e@1.0.0") (leads_latest (asks e_pairs []) (codes "e") refl) refl refl;
+  };
+}
+
+-- x and b, and then y, which x depends on
+abbrev order_pairs : List Pair
+order_pairs = (codes "c", codes "npm:x@latest") ∷ (codes "d", codes "npm:b@latest") ∷ []
+
+abbrev order_inputs : Inputs
+order_inputs = asks order_pairs []
+
+abbrev x_turn : Turn
+x_turn = asked false (codes "c") (codes "npm:x@latest")
+
+abbrev to_y : Turn
+to_y = turn_by (at_package 0) (wish false (latest_of (codes "y")))
+
+abbrev back_to_x : Turn
+back_to_x = turn_by (at_package 2) (wish false (latest_of (codes "x")))
+
+x_spec : IsSpec (codes "npm:x@latest") (spec.Alias (codes "x") latest)
+x_spec = (codes "x@latest", refl, inr (codes "latest", refl, refl, latest_tag))
+
+leads_to_x : leads_in order_inputs x_turn.wish (Some (to_package (codes "x@1.0.0")))
+unfolding digits
+leads_to_x = (
+  of_package (codes "x") latest,
+  record { spec = spec.Alias (codes "x") latest; says = x_spec; is = refl },
+  (Some (release 1 0 0), record { shelf = one_version; shows = refl; is = refl }, refl),
+)
+
+-- the states on the way
+abbrev at_first : State
+at_first = start (x_turn ∷ d_turn ∷ [])
+
+abbrev at_second : State
+at_second = record { todo = d_turn ∷ to_y ∷ []; met = x_met ∷ []; links = link_to x_turn (Some (at_package 0)) ∷ [] }
+
+abbrev at_third : State
+at_third = record {
+  todo = to_y ∷ [];
+  met = x_met ∷ b_met ∷ [];
+  links = link_to x_turn (Some (at_package 0)) ∷ link_to d_turn (Some (at_package 1)) ∷ [];
+}
+
+abbrev at_fourth : State
+at_fourth = record {
+  todo = back_to_x ∷ [];
+  met = x_met ∷ b_met ∷ y_met ∷ [];
+  links = link_to x_turn (Some (at_package 0)) ∷ link_to d_turn (Some (at_package 1)) ∷ link_to to_y (Some (at_package 2)) ∷ [];
+}
+
+abbrev at_end : State
+at_end = record {
+  todo = [];
+  met = x_met ∷ b_met ∷ y_met ∷ [];
+  links = link_to x_turn (Some (at_package 0)) ∷ link_to d_turn (Some (at_package 1)) ∷ link_to to_y (Some (at_package 2)) ∷ link_to back_to_x (Some (at_package 0)) ∷ [];
+}
+
+abbrev Step : State → State → Type 0
+Step s t = Moves (leads_in order_inputs) (IsToldNode small) s t
+
+first_step : Step at_first at_second
+first_step = record {
+  turn = x_turn;
+  rest = d_turn ∷ [];
+  next = refl;
+  to = Some (at_package 0);
+  added = x_met ∷ [];
+  takes = record {
+    aim = Some (to_package (codes "x@1.0.0"));
+    aims = leads_to_x;
+    lands = record { new = x_met; is = x_is; here = refl; room = omega arith; at = refl; only = refl };
+  };
+  is = refl;
+}
+
+second_step : Step at_second at_third
+second_step = record {
+  turn = d_turn;
+  rest = to_y ∷ [];
+  next = refl;
+  to = Some (at_package 1);
+  added = b_met ∷ [];
+  takes = record {
+    aim = Some (to_package (codes "b@1.0.0"));
+    aims = leads_to_b order_inputs (codes "d");
+    lands = record { new = b_met; is = b_is; here = refl; room = omega arith; at = refl; only = refl };
+  };
+  is = refl;
+}
+
+third_step : Step at_third at_fourth
+unfolding digits
+third_step = record {
+  turn = to_y;
+  rest = [];
+  next = refl;
+  to = Some (at_package 2);
+  added = y_met ∷ [];
+  takes = record {
+    aim = Some (to_package (codes "y@1.0.0"));
+    aims = leads_latest order_inputs (codes "y") refl;
+    lands = record { new = y_met; is = y_is; here = refl; room = omega arith; at = refl; only = refl };
+  };
+  is = refl;
+}
+
+last_step : Step at_fourth at_end
+unfolding digits
+last_step = record {
+  turn = back_to_x;
+  rest = [];
+  next = refl;
+  to = Some (at_package 0);
+  added = [];
+  takes = record {
+    aim = Some (to_package (codes "x@1.0.0"));
+    aims = leads_latest order_inputs (codes "x") refl;
+    lands = record { at = refl; only = refl };
+  };
+  is = refl;
+}
+
+order_row : IsToldPlain small order_inputs at_end
+order_row = record {
+  own = x_turn ∷ d_turn ∷ [];
+  starts = starts order_pairs [];
+  walked = record {
+    walk = goes at_first at_second first_step (goes at_second at_third second_step (goes at_third at_fourth third_step (goes at_fourth at_end last_step (ends at_end refl))));
+    none = refl;
+  };
+}
+
 pub graph_rows : GraphRows
-graph_rows = record { alias = alias_row; first = first_row; absent = absent_row; next = next_row; project = project_row; itself = itself_row }
+graph_rows = record {
+  alias = alias_row;
+  first = first_row;
+  absent = absent_row;
+  next = next_row;
+  project = project_row;
+  itself = itself_row;
+  nowhere = nowhere_row;
+  two = two_row;
+  unread = unread_row;
+  order = order_row;
+}
