@@ -1,22 +1,18 @@
 -- The version that is chosen is that of the choice.
-use Rattle.std.proofs.Common.{◌≡◌, ℕ, Bool, true, false, List, [], ◌∷◌, Option, Some, None, refl, sym, ap, ◌∙◌, subst}
+use Rattle.std.proofs.Common.{◌≡◌, ℕ, Bool, List, [], ◌∷◌, Option, Some, None, refl, sym, ap, ◌∙◌, subst}
 use Rattle.std.specs.Prelude.{Result, Ok, slice_get, option_and_then}
 use Rattle.semver.specs.Parse.{Parts}
 use Rattle.pn_ranges.specs.Limits.{Limit}
 use Rattle.pn_spec.specs.declared.want.Want.{Want}
 use Rattle.pn_spec.specs.declared.want.Want.TheVariants as want
 use Rattle.pn_walk.specs.declared.wish.Aim.{Aim}
-use Rattle.pn_walk.specs.declared.wish.Aim.TheVariants.{Project as to_project, Package as to_package}
-use Rattle.pn_walk.specs.Wants.{Id}
 use Rattle.pn_published.specs.Choice.{chosen, fits, is_held, IsChoice, greatest_held, the_latest, the_greatest, none, NonePasses, ChoiceLaw}
 use Rattle.pn_published.specs.Shelves.{Shelf}
 use Rattle.pn_published.specs.Versions.{IsRising}
 use Rattle.pn_plain.specs.AimLaws.{IsChosen, RangeAim, IsTagged, IsUntagged, TagAim, AimLaw}
-use Rattle.pn_plain.specs.Aims.{Chooses, Found, ReadingLeads, id_at}
-use Rattle.pn_plain.specs.Causes.{no_version, ReadingRefused}
+use Rattle.pn_plain.specs.Aims.{Chooses, Found, id_at}
 use Rattle.pn_plain.specs.Given.{Given, held_of, tag_place, version_of}
-use Rattle.pn_plain.specs.Readings.{of_package}
-use Rattle.pn_plain.specs.Told.{Told, IsToldShelf, IsGap}
+use Rattle.pn_plain.specs.Told.{Told, IsToldShelf}
 
 none_some : {A : Type 0} (a : A) → None ≡ Some a → ⊥
 none_some a h = cc

@@ -14,7 +14,6 @@ use Rattle.pn_walk.specs.declared.wish.Aim.{Aim}
 use Rattle.pn_walk.specs.declared.wish.Aim.TheVariants.{Project as to_project, Package as to_package}
 use Rattle.pn_walk.specs.declared.wish.Place.TheVariants.{Project as at_project, Package as at_package}
 use Rattle.pn_walk.specs.Walks.{Turn, Link, State, turn_by, start, Moves, ends, goes}
-use Rattle.pn_published.specs.Shelves.{shelf_with}
 use Rattle.pn_plain.specs.Aims.{Leads, id_at}
 use Rattle.pn_plain.specs.Causes.{no_version, no_catalog, no_project, two_projects, registry, no_aim, not_met}
 use Rattle.pn_plain.specs.GraphRows.{no_versions, one_version, said_of, latest_of, small, asks, asked, link_to, b_met, x_met, y_met, twins, GraphRows}

@@ -3,7 +3,9 @@ use Rattle.std.specs.Prelude.{◌≡◌, ℕ, Bool, true, false, List, [], ◌�
 use Rattle.std.specs.Fmt.{digits}
 use Rattle.semver.specs.Parse.{Parts, digits_from}
 use Rattle.pn_ranges.specs.Limits.{Limit}
-use Rattle.pn_ranges.specs.declared.bound.Comparison.TheVariants.{Below, AtLeast}
+use Rattle.pn_ranges.specs.declared.bound.Comparison.TheVariants.{Below, AtLeast, Exactly}
+use Rattle.pn_spec.specs.declared.entry.CatalogEntry.{CatalogEntry}
+use Rattle.pn_spec.specs.declared.spec.Spec.{Spec}
 use Rattle.pn_spec.specs.declared.spec.Spec.TheVariants as spec
 use Rattle.pn_spec.specs.declared.want.Want.{Want}
 use Rattle.pn_spec.specs.declared.want.Want.TheVariants as want
@@ -11,8 +13,8 @@ use Rattle.pn_spec.specs.declared.workspace.WsWant.TheVariants as ws
 use Rattle.pn_published.specs.Shelves.{Shelf, shelf_with}
 use Rattle.pn_walk.specs.declared.node.Peer.{Peer}
 use Rattle.pn_plain.specs.Aims.{id_at}
-use Rattle.pn_plain.specs.Given.{Named, version_of}
-use Rattle.pn_plain.specs.Readings.{of_package, reading, one, nobody, two, bearing, bearer}
+use Rattle.pn_plain.specs.Given.{Named, held_of, version_of}
+use Rattle.pn_plain.specs.Readings.{of_package, of_project, no_entry, reading, one, nobody, two, bearing, bearer}
 use Rattle.pn_plain.specs.Said.{Pair, Said}
 use Rattle.pn_plain.specs.Seen.{a_project, a_package, no_hook, IsSeen, seen, counted, wish, wishes_of}
 
@@ -98,6 +100,9 @@ other_prerelease_row = refl
 abbrev pub three : Shelf
 three = shelf_with (release 1 0 0 ∷ release 1 1 0 ∷ release 1 2 0 ∷ []) ((codes "latest", codes "1.1.0") ∷ (codes "old", codes "1.0.0") ∷ (codes "gone", codes "0.1.0") ∷ [])
 
+abbrev pub exactly_one : List (List Limit)
+exactly_one = (record { comparison = Exactly; major = 1; minor = 0; patch = 0; pre = [] } ∷ []) ∷ []
+
 abbrev pub caret_one : Want
 caret_one = want.Range ((at_least 1 0 0 [] ∷ below 2 0 0 (codes "0") ∷ []) ∷ [])
 
@@ -132,6 +137,37 @@ only_prereleases_row = refl
 pub alias_row : reading [] (codes "c") (spec.Alias (codes "b") caret_one) ≡ of_package (codes "b") caret_one
 alias_row = refl
 
+pub range_row : reading [] (codes "c") (spec.Range exactly_one) ≡ of_package (codes "c") (want.Range exactly_one)
+range_row = refl
+
+-- `workspace:^` is of the project of the alias's name, and `workspace:b@^` of b
+pub workspace_row : reading [] (codes "c") (spec.Workspace (record { name = None; want = ws.Caret })) ≡ of_project (codes "c") ws.Caret
+workspace_row = refl
+
+pub named_workspace_row : reading [] (codes "c") (spec.Workspace (record { name = Some (codes "b"); want = ws.Caret })) ≡ of_project (codes "b") ws.Caret
+named_workspace_row = refl
+
+-- `catalog:k` is what the catalog k has under the alias
+abbrev pub entry : List ℕ → List ℕ → Spec → CatalogEntry
+entry catalog name spec = record { catalog = catalog; name = name; text = []; spec = spec }
+
+abbrev pub catalogs : List CatalogEntry
+catalogs = entry (codes "default") (codes "c") (spec.Tag (codes "next")) ∷ entry (codes "k") (codes "b") (spec.Range exactly_one)
+    ∷ entry (codes "k") (codes "c") (spec.Alias (codes "b") (want.Tag (codes "rc"))) ∷ []
+
+pub catalog_row : reading catalogs (codes "c") (spec.Catalog (codes "k")) ≡ of_package (codes "b") (want.Tag (codes "rc"))
+catalog_row = refl
+
+pub default_catalog_row : reading catalogs (codes "c") (spec.Catalog (codes "default")) ≡ of_package (codes "c") (want.Tag (codes "next"))
+default_catalog_row = refl
+
+pub no_catalog_row : reading catalogs (codes "b") (spec.Catalog (codes "default")) ≡ no_entry
+no_catalog_row = refl
+
+-- the versions of b that are held
+pub held_of_row : held_of (codes "b") ((codes "a", release 1 0 0) ∷ (codes "b", release 2 0 0) ∷ (codes "b", release 3 0 0) ∷ []) ≡ release 2 0 0 ∷ release 3 0 0 ∷ []
+held_of_row = refl
+
 -- an id is the text of its name and version
 pub id_row : id_at (codes "@s/b") (1, 0, 0, codes "rc.1", codes "x") ≡ codes "@s/b@1.0.0-rc.1+x"
 unfolding digits
@@ -153,3 +189,7 @@ two_row = refl
 
 pub no_bearer_row : bearer four ws.Tilde (bearing (codes "z") 0 four) ≡ nobody
 no_bearer_row = refl
+
+-- `*` takes a project without a version
+pub any_row : bearer (record { name = Some (codes "b"); version = None } ∷ []) ws.Any (bearing (codes "b") 0 (record { name = Some (codes "b"); version = None } ∷ [])) ≡ one 0
+any_row = refl

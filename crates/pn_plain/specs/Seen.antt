@@ -1,4 +1,4 @@
--- The seen manifest: what a manifest counts as, behind hooks and overrides.
+-- The seen manifest: what a manifest counts as, after hooks and overrides.
 use Rattle.std.specs.Prelude.{◌≡◌, ℕ, ◌&&◌, Bool, true, false, not, List, [], ◌∷◌, ◌++◌, Option, Some, None, map, filter, if◌then◌else◌}
 use Rattle.std.specs.List.{list_any}
 use Rattle.std.specs.Str.{bytes_eq}
