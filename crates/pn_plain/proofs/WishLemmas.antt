@@ -8,7 +8,7 @@ use Rattle.std.specs.Ordering.{nat_cmp, is_lt, ordering_reverse}
 use Rattle.std.specs.declared.cmp.Ordering.{Ordering}
 use Rattle.std.specs.declared.cmp.Ordering.TheVariants.{Less, Equal, Greater}
 use Rattle.std.proofs.lemmas.Cmp.{nat_list_cmp_total}
-use Rattle.std.proofs.lemmas.List.Elements.{All-contains}
+use Rattle.std.proofs.lemmas.List.Elements.{All-contains, All-weaker, recursion_from_All}
 use Rattle.std.proofs.lemmas.List.Kept.{IsStrictlySortedBy-filter}
 use Rattle.std.proofs.lemmas.Map.Lookups.{exact_bytes}
 use Rattle.std.proofs.lemmas.Map.Views.{All-after_first}
@@ -80,10 +80,6 @@ is_after a b h n = other_way (slice_cmp nat_cmp a b) (slice_cmp nat_cmp b a) h (
 abbrev IsBelowAll : List ℕ → List (List ℕ) → Type 0
 IsBelowAll a bs = AllByRecursion (λ (b : List ℕ). slice_cmp nat_cmp a b ≡ Less) bs
 
-below_further : (a b : List ℕ) (cs : List (List ℕ)) → slice_cmp nat_cmp a b ≡ Less → IsBelowAll b cs → IsBelowAll a cs
-below_further a b [] h k = tt
-below_further a b (c ∷ cs) h k = (nat_list_cmp_total.trans a b c h k.0, below_further a b cs h k.1)
-
 below_put : (a : List ℕ) (w : Wish) (ws : List Wish) → slice_cmp nat_cmp a w.alias ≡ Less → IsBelowAll a (aliases ws) → IsBelowAll a (aliases (put_wish w ws))
 below_put a w [] h k = (h, tt)
 below_put a w (y ∷ ys) h k = elim (is_lt (slice_cmp nat_cmp w.alias y.alias)) as (λ b. IsBelowAll a (aliases (if b then w ∷ y ∷ ys else y ∷ put_wish w ys))) [
@@ -95,7 +91,10 @@ put_rises : (w : Wish) (ws : List Wish) → AreRising (aliases ws) → (Contains
 unfolding IsStrictlySortedBy
 put_rises w [] h n = (tt, tt)
 put_rises w (y ∷ ys) h n = elim (is_lt (slice_cmp nat_cmp w.alias y.alias)) as (λ b. is_lt (slice_cmp nat_cmp w.alias y.alias) ≡ b → AreRising (aliases (if b then w ∷ y ∷ ys else y ∷ put_wish w ys))) [
-  | true ↦ λ e. let less = is_less (slice_cmp nat_cmp w.alias y.alias) e in ((less, below_further w.alias y.alias (aliases ys) less h.0), h)
+  | true ↦ λ e.
+    let less = is_less (slice_cmp nat_cmp w.alias y.alias) e in
+    let further = All-weaker (λ (a : List ℕ). slice_cmp nat_cmp y.alias a ≡ Less) (λ (a : List ℕ). slice_cmp nat_cmp w.alias a ≡ Less) (λ a k. nat_list_cmp_total.trans w.alias y.alias a less k) (aliases ys) (All-after_first (slice_cmp nat_cmp) y.alias (aliases ys) h) in
+    ((less, recursion_from_All (λ (a : List ℕ). slice_cmp nat_cmp w.alias a ≡ Less) (aliases ys) further), h)
   | false ↦ λ e. (
     below_put y.alias w ys (is_after w.alias y.alias e (λ same. n (subst (λ (a : List ℕ). Contains (y.alias ∷ aliases ys) a) same (here y.alias (aliases ys))))) h.0,
     put_rises w ys h.1 (λ c. n (there y.alias (aliases ys) w.alias c)),
