@@ -92,9 +92,9 @@ unfolding IsStrictlySortedBy
 put_rises w [] h n = (tt, tt)
 put_rises w (y ∷ ys) h n = elim (is_lt (slice_cmp nat_cmp w.alias y.alias)) as (λ b. is_lt (slice_cmp nat_cmp w.alias y.alias) ≡ b → AreRising (aliases (if b then w ∷ y ∷ ys else y ∷ put_wish w ys))) [
   | true ↦ λ e.
-    let less = is_less (slice_cmp nat_cmp w.alias y.alias) e in
-    let further = All-weaker (λ (a : List ℕ). slice_cmp nat_cmp y.alias a ≡ Less) (λ (a : List ℕ). slice_cmp nat_cmp w.alias a ≡ Less) (λ a k. nat_list_cmp_total.trans w.alias y.alias a less k) (aliases ys) (All-after_first (slice_cmp nat_cmp) y.alias (aliases ys) h) in
-    ((less, recursion_from_All (λ (a : List ℕ). slice_cmp nat_cmp w.alias a ≡ Less) (aliases ys) further), h)
+      let less = is_less (slice_cmp nat_cmp w.alias y.alias) e in
+      let further = All-weaker (λ (a : List ℕ). slice_cmp nat_cmp y.alias a ≡ Less) (λ (a : List ℕ). slice_cmp nat_cmp w.alias a ≡ Less) (λ a k. nat_list_cmp_total.trans w.alias y.alias a less k) (aliases ys) (All-after_first (slice_cmp nat_cmp) y.alias (aliases ys) h) in
+      ((less, recursion_from_All (λ (a : List ℕ). slice_cmp nat_cmp w.alias a ≡ Less) (aliases ys) further), h)
   | false ↦ λ e. (
     below_put y.alias w ys (is_after w.alias y.alias e (λ same. n (subst (λ (a : List ℕ). Contains (y.alias ∷ aliases ys) a) same (here y.alias (aliases ys))))) h.0,
     put_rises w ys h.1 (λ c. n (there y.alias (aliases ys) w.alias c)),

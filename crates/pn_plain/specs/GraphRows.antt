@@ -72,7 +72,7 @@ y_met = met_with (codes "y@1.0.0") (latest_of (codes "x") ∷ [])
 abbrev pub twins : Inputs
 twins = record {
   projects = record { folder = codes "."; said = said_with (Some (codes "w")) [] [] ((codes "v", codes "workspace:^") ∷ []) [] }
-    ∷ record { folder = codes "p"; said = said_of (codes "v") [] } ∷ record { folder = codes "q"; said = said_of (codes "v") [] } ∷ [];
+      ∷ record { folder = codes "p"; said = said_of (codes "v") [] } ∷ record { folder = codes "q"; said = said_of (codes "v") [] } ∷ [];
   held = [];
   catalogs = [];
   auto_peers = false;
@@ -115,7 +115,7 @@ pub record GraphRows : Type 0 where
         todo = [];
         met = x_met ∷ b_met ∷ y_met ∷ [];
         links = link_to (asked false (codes "c") (codes "npm:x@latest")) (Some (at_package 0))
-          ∷ link_to (asked false (codes "d") (codes "npm:b@latest")) (Some (at_package 1))
-          ∷ link_to (turn_by (at_package 0) (wish false (latest_of (codes "y")))) (Some (at_package 2))
-          ∷ link_to (turn_by (at_package 2) (wish false (latest_of (codes "x")))) (Some (at_package 0)) ∷ [];
+            ∷ link_to (asked false (codes "d") (codes "npm:b@latest")) (Some (at_package 1))
+            ∷ link_to (turn_by (at_package 0) (wish false (latest_of (codes "y")))) (Some (at_package 2))
+            ∷ link_to (turn_by (at_package 2) (wish false (latest_of (codes "x")))) (Some (at_package 0)) ∷ [];
       })
