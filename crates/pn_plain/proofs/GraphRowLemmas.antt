@@ -2,7 +2,9 @@
 use Rattle.std.proofs.Common.{◌≡◌, ℕ, true, false, List, [], ◌∷◌, Option, Some, None, refl, arith, map, ◌++◌, inr, codes, Ok}
 use Rattle.std.specs.Fmt.{digits}
 use Rattle.pn_ranges.proofs.Stopped.{no-byte, ranges-form}
+use Rattle.pn_text.proofs.Bytes.{same_first}
 use Rattle.pn_spec.specs.Forms.{IsSpec, IsTag}
+use Rattle.pn_spec.specs.Refusals.{FitsNoForm}
 use Rattle.pn_spec.specs.declared.spec.Spec.TheVariants as spec
 use Rattle.pn_spec.specs.declared.want.Want.{Want}
 use Rattle.pn_spec.specs.declared.want.Want.TheVariants as want
@@ -15,7 +17,7 @@ use Rattle.pn_walk.specs.declared.wish.Aim.TheVariants.{Project as to_project, P
 use Rattle.pn_walk.specs.declared.wish.Place.TheVariants.{Project as at_project, Package as at_package}
 use Rattle.pn_walk.specs.Walks.{Turn, Link, State, turn_by, start, Moves, ends, goes}
 use Rattle.pn_plain.specs.Aims.{Leads, id_at}
-use Rattle.pn_plain.specs.Causes.{no_version, no_catalog, no_project, two_projects, registry, no_aim, not_met}
+use Rattle.pn_plain.specs.Causes.{unsupported, no_version, no_catalog, no_project, two_projects, registry, no_form, no_aim, not_met}
 use Rattle.pn_plain.specs.GraphRows.{no_versions, one_version, said_of, latest_of, small, asks, asked, link_to, b_met, x_met, y_met, twins, GraphRows}
 use Rattle.pn_plain.specs.Plains.{Inputs, given_by, AreStarts, no_more, one_more}
 use Rattle.pn_plain.specs.Readings.{of_package, of_project, no_entry}
@@ -340,6 +342,37 @@ two_row = record {
   };
 }
 
+-- a text that begins with another byte
+other_first : (b c : ℕ) (bs cs : List ℕ) → (b ≡ c → ⊥) → b ∷ bs ≡ c ∷ cs → ⊥
+other_first b c bs cs n e = n (same_first b c bs cs e)
+
+git_no_form : FitsNoForm (codes "git+ssh://h/r")
+git_no_form = record {
+  workspace = λ rest e. absurd (other_first 103 119 (codes "it+ssh://h/r") (codes "orkspace:" ++ rest) (omega arith) e);
+  catalog = λ rest e. absurd (other_first 103 99 (codes "it+ssh://h/r") (codes "atalog:" ++ rest) (omega arith) e);
+  alias = λ rest e. absurd (other_first 103 110 (codes "it+ssh://h/r") (codes "pm:" ++ rest) (omega arith) e);
+  bare = record {
+    no_range = λ r s. no-byte (codes "git+ssh://h/r") 13 (ranges-form (codes "git+ssh://h/r") s.count r s.read) refl;
+    no_tag = refl;
+  };
+}
+
+abbrev git_turn : Turn
+git_turn = asked true (codes "a") (codes "git+ssh://h/r")
+
+formless_row : IsToldUnplain small (asks [] ((codes "a", codes "git+ssh://h/r") ∷ [])) (start (git_turn ∷ [])) unsupported
+formless_row = record {
+  own = git_turn ∷ [];
+  starts = starts [] ((codes "a", codes "git+ssh://h/r") ∷ []);
+  stopped = record {
+    walk = ends (start (git_turn ∷ [])) refl;
+    turn = git_turn;
+    rest = [];
+    next = refl;
+    why = no_form refl git_no_form refl;
+  };
+}
+
 -- a wish for the tag `latest` of a name with one version
 leads_latest : (i : Inputs) (n : List ℕ) → small.shelf n ≡ Ok one_version → leads_in i (wish false (latest_of n)) (Some (to_package (id_at n (release 1 0 0))))
 leads_latest i n shows = (
@@ -509,5 +542,6 @@ graph_rows = record {
   nowhere = nowhere_row;
   two = two_row;
   unread = unread_row;
+  formless = formless_row;
   order = order_row;
 }

@@ -8,7 +8,7 @@ use Rattle.pn_walk.specs.declared.wish.Place.TheVariants.{Project as at_project,
 use Rattle.pn_walk.specs.Wants.{Id}
 use Rattle.pn_walk.specs.Walks.{Turn, Link, turn_by}
 use Rattle.pn_published.specs.Shelves.{Shelf, shelf_with}
-use Rattle.pn_plain.specs.Causes.{no_version, no_catalog, no_project, two_projects, registry}
+use Rattle.pn_plain.specs.Causes.{unsupported, no_version, no_catalog, no_project, two_projects, registry}
 use Rattle.pn_plain.specs.Plains.{Inputs}
 use Rattle.pn_plain.specs.Rows.{said_with, release}
 use Rattle.pn_plain.specs.Said.{Pair, Said}
@@ -109,6 +109,9 @@ pub record GraphRows : Type 0 where
   -- a package is read at the edge that meets it first
   pub unread : IsToldUnplain small (asks (latest_of (codes "e") ∷ (codes "f", codes "catalog:") ∷ []) [])
       (record { todo = asked false (codes "e") (codes "latest") ∷ asked false (codes "f") (codes "catalog:") ∷ []; met = []; links = [] }) (registry 1)
+  -- a specifier without a form is refused, optional or not
+  pub formless : IsToldUnplain small (asks [] ((codes "a", codes "git+ssh://h/r") ∷ []))
+      (record { todo = asked true (codes "a") (codes "git+ssh://h/r") ∷ []; met = []; links = [] }) unsupported
   -- the project's edges are taken before those of packages, and a package that was met isn't met again
   pub order : IsToldPlain small (asks ((codes "c", codes "npm:x@latest") ∷ (codes "d", codes "npm:b@latest") ∷ []) [])
       (record {
