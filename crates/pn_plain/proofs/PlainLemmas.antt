@@ -1,14 +1,14 @@
 -- The plain graph is settled by the inputs.
-use Rattle.std.proofs.Common.{◌≡◌, ℕ, suc, Bool, List, ◌++◌, Option, Some, refl, sym, ap, ◌∙◌, subst, map}
+use Rattle.std.proofs.Common.{◌≡◌, ℕ, ◌∷◌, suc, Bool, List, ◌++◌, Option, Some, refl, sym, ap, ◌∙◌, subst, map}
 use Rattle.std.specs.Prelude.{Result, Ok, Err}
 use Rattle.pn_walk.specs.declared.wish.Wish.{Wish}
 use Rattle.pn_walk.specs.declared.node.Node.{Node}
 use Rattle.pn_walk.specs.declared.node.Peer.{Peer}
 use Rattle.pn_walk.specs.declared.wish.Place.TheVariants.{Project as at_project}
 use Rattle.pn_walk.specs.Wants.{Id}
-use Rattle.pn_walk.specs.Walks.{Turn, State, turn_by, start, IsWalked, IsStopped}
+use Rattle.pn_walk.specs.Walks.{Turn, State, turn_by, start, Walk, IsWalked, IsStopped}
 use Rattle.pn_walk.specs.Graphs.{IsGraph, IsAsked}
-use Rattle.pn_walk.proofs.SettledLemmas.{same_walk, not_both, same_refusal}
+use Rattle.pn_walk.proofs.SettledLemmas.{one_end, stopped_stuck, same_walk, not_both, same_refusal}
 use Rattle.pn_walk.proofs.GraphLemmas.{graph, refused_edge}
 use Rattle.pn_published.specs.Shelves.{Shelf}
 use Rattle.pn_plain.specs.Aims.{Leads}
@@ -68,6 +68,26 @@ one_refusal {F} P U M R h r one s i t u f c a b =
     same_refusal (Leads P g) (IsNode M h r) refused (settled P U (IsNode M h r) R s g) (apart P U (IsNode M h r) R s g) (start b.own) t u f c
     (subst (λ (l : List Turn). IsStopped (Leads P g) (IsNode M h r) refused (start l) t f) own a.stopped) b.stopped
 
+-- The state before the refusal is settled too, and so is the edge.
+pub one_stop : {F : Type 0} (P : List ℕ → Shelf → Type 0) (U : List ℕ → F → Type 0) (M : Id → Said → Type 0) (R : Id → F → Type 0) (h : Hook) (r : Rules) → AreRules r → Shown P U (IsNode M h r) R → (i : Inputs) (t u : State) (f c : Cause F)
+    → IsUnplain P U M R h r i t f → IsUnplain P U M R h r i u c → t ≡ u
+one_stop {F} P U M R h r one s i t u f c a b =
+    let g = given_by i in
+    let refused : List Node → Turn → Cause F → Type 0 = λ met e x. Refused P U (IsNode M h r) R g met e x in
+    let own : a.own ≡ b.own = one_start h r one i.auto_peers 0 i.projects a.own b.own a.starts b.starts in
+    one_end (Leads P g) (IsNode M h r) (settled P U (IsNode M h r) R s g) t u (start b.own)
+    (subst (λ (l : List Turn). Walk (Leads P g) (IsNode M h r) t (start l)) own a.stopped.walk) b.stopped.walk
+    (stopped_stuck (Leads P g) (IsNode M h r) refused (apart P U (IsNode M h r) R s g) (start a.own) t f a.stopped)
+    (stopped_stuck (Leads P g) (IsNode M h r) refused (apart P U (IsNode M h r) R s g) (start b.own) u c b.stopped)
+
+first_is : (x y : List Turn) (a b : Turn) (front back : List Turn) → x ≡ y → x ≡ a ∷ front → y ≡ b ∷ back → a ≡ b
+first_is x y a b front back e i j = cc
+
+pub one_edge : {F : Type 0} (P : List ℕ → Shelf → Type 0) (U : List ℕ → F → Type 0) (M : Id → Said → Type 0) (R : Id → F → Type 0) (h : Hook) (r : Rules) → AreRules r → Shown P U (IsNode M h r) R → (i : Inputs) (t u : State) (f c : Cause F)
+    → (a : IsUnplain P U M R h r i t f) → (b : IsUnplain P U M R h r i u c) → a.stopped.turn ≡ b.stopped.turn
+one_edge P U M R h r one s i t u f c a b =
+    first_is t.todo u.todo a.stopped.turn b.stopped.turn a.stopped.rest b.stopped.rest (ap (λ (x : State). x.todo) (one_stop P U M R h r one s i t u f c a b)) a.stopped.next b.stopped.next
+
 -- An edge that is refused is asked for.
 pub refused_asked : {F : Type 0} (P : List ℕ → Shelf → Type 0) (U : List ℕ → F → Type 0) (M : Id → Said → Type 0) (R : Id → F → Type 0) (h : Hook) (r : Rules) (i : Inputs) (t : State) (f : Cause F)
     → (p : IsUnplain P U M R h r i t f) → IsAsked (Leads P (given_by i)) (IsNode M h r) p.own p.stopped.turn
@@ -115,6 +135,8 @@ pub plain_law : (t : Told) → PlainLaw t
 plain_law t = record {
   graph = λ i s p. plain_graph (IsToldShelf t) (IsGap t) (IsToldManifest t) (IsUnread t) t.hook (IsOverridden t) (told_shown t) i s p;
   same = λ i s u a b. same_plain (IsToldShelf t) (IsGap t) (IsToldManifest t) (IsUnread t) t.hook (IsOverridden t) (told_rules t) (told_shown t) i s u a b;
+  one_stop = λ i s u f c a b. one_stop (IsToldShelf t) (IsGap t) (IsToldManifest t) (IsUnread t) t.hook (IsOverridden t) (told_rules t) (told_shown t) i s u f c a b;
+  one_edge = λ i s u f c a b. one_edge (IsToldShelf t) (IsGap t) (IsToldManifest t) (IsUnread t) t.hook (IsOverridden t) (told_rules t) (told_shown t) i s u f c a b;
   one_cause = λ i s u f c a b. one_refusal (IsToldShelf t) (IsGap t) (IsToldManifest t) (IsUnread t) t.hook (IsOverridden t) (told_rules t) (told_shown t) i s u f c a b;
   asked = λ i s f p. refused_asked (IsToldShelf t) (IsGap t) (IsToldManifest t) (IsUnread t) t.hook (IsOverridden t) i s f p;
   passed = λ i s u f a b. plain_or_not (IsToldShelf t) (IsGap t) (IsToldManifest t) (IsUnread t) t.hook (IsOverridden t) (told_rules t) (told_shown t) i s u f a b;
