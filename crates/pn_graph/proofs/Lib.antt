@@ -4,3 +4,4 @@ pub mod PlaceLemmas
 pub mod RangeLemmas
 pub mod PassLemmas
 pub mod FreeLemmas
+pub mod SearchLemmas
