@@ -1,6 +1,7 @@
 pub mod AimLemmas
 pub mod PlainLemmas
 pub mod ChosenLemmas
+pub mod EdgeLemmas
 pub mod SeenLemmas
 pub mod WishLemmas
 pub mod GraphRowLemmas
