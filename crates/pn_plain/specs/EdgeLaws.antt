@@ -37,3 +37,18 @@ pub record IsRefused (told : Told) (g : Given) (met : List Node) (e : Turn) : Ty
 -- No edge is left without an answer.
 abbrev pub EdgeLaw : Told → Type 0
 EdgeLaw told = IsTotal told → (g : Given) (met : List Node) (e : Turn) → IsReadable e.wish.specifier → IsTaken told g met e.wish ⊎ IsRefused told g met e
+
+-- The inputs have a plain graph.
+pub record HasPlain (told : Told) (i : Inputs) : Type 0 where
+  pub state : State
+  pub plain : IsToldPlain told i state
+
+-- Or they are refused.
+pub record HasRefusal (told : Told) (i : Inputs) : Type 0 where
+  pub state : State
+  pub cause : Cause ℕ
+  pub unplain : IsToldUnplain told i state cause
+
+-- No inputs are left without an answer.
+abbrev pub AnswerLaw : Told → Type 0
+AnswerLaw told = IsTotal told → ((text : List ℕ) → IsReadable text) → (i : Inputs) → HasPlain told i ⊎ HasRefusal told i

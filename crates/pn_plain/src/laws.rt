@@ -1,6 +1,6 @@
 // Laws of seen manifests and of the plain graph.
 ghost use Rattle.pn_plain.specs.AimLaws.{AimLaw};
-ghost use Rattle.pn_plain.specs.EdgeLaws.{EdgeLaw};
+ghost use Rattle.pn_plain.specs.EdgeLaws.{AnswerLaw, EdgeLaw};
 ghost use Rattle.pn_plain.specs.PlainLaws.{PlainLaw};
 ghost use Rattle.pn_plain.specs.SeenLaws.{SeenLaw};
 ghost use Rattle.pn_plain.specs.Told.{Told};
@@ -28,6 +28,11 @@ pub fn aim_law()
 /// Each edge is taken or refused: no cause is missing.
 pub fn edge_law()
     ensures { (told : Told) → EdgeLaw told }
+{}
+
+/// All inputs have a plain graph or a refusal.
+pub fn answer_law()
+    ensures { (told : Told) → AnswerLaw told }
 {}
 
 /// What is told settles one graph, or one refusal and never both. The graph is that of what the projects ask for, and the

@@ -16,5 +16,5 @@
 mod laws;
 mod rows;
 
-pub use laws::{aim_law, edge_law, plain_law, seen_law, wish_law};
+pub use laws::{aim_law, answer_law, edge_law, plain_law, seen_law, wish_law};
 pub use rows::graph_rows;
