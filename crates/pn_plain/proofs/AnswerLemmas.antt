@@ -8,17 +8,14 @@ use Rattle.pn_walk.specs.declared.wish.Aim.{Aim}
 use Rattle.pn_walk.specs.declared.wish.Aim.TheVariants.{Project as to_project, Package as to_package}
 use Rattle.pn_walk.specs.declared.wish.Place.{Place}
 use Rattle.pn_walk.specs.declared.wish.Place.TheVariants.{Project as at_project}
-use Rattle.pn_walk.specs.declared.wish.Wish.{Wish}
 use Rattle.pn_walk.specs.Wants.{Id}
-use Rattle.pn_walk.specs.Walks.{Turn, Link, State, turn_by, after, Lands, LandsAt, Takes, Moves, Walk, ends, goes, place_of, start, turns_of}
+use Rattle.pn_walk.specs.Walks.{Turn, Link, State, turn_by, after, Lands, LandsAt, Moves, Walk, ends, goes, place_of, turns_of}
 use Rattle.pn_plain.specs.Aims.{Leads}
-use Rattle.pn_plain.specs.Causes.{Cause, Refused}
-use Rattle.pn_plain.specs.EdgeLaws.{IsReadable, IsTotal, IsTaken, IsRefused, HasPlain, HasRefusal, AnswerLaw}
+use Rattle.pn_plain.specs.EdgeLaws.{IsReadable, IsTotal, IsRefused, AnswerLaw}
 use Rattle.pn_plain.specs.Given.{Given}
-use Rattle.pn_plain.specs.Plains.{Project, Inputs, given_by, AreStarts, no_more, one_more}
-use Rattle.pn_plain.specs.Said.{Said}
-use Rattle.pn_plain.specs.Seen.{Owner, a_project, one_map, dependency_names, dropped, counted, wishes_of}
-use Rattle.pn_plain.specs.Told.{Told, IsToldShelf, IsGap, IsToldNode, IsUnread, IsOverridden}
+use Rattle.pn_plain.specs.Plains.{Project, given_by, AreStarts, no_more, one_more}
+use Rattle.pn_plain.specs.Seen.{a_project, one_map, dependency_names, dropped, counted, wishes_of}
+use Rattle.pn_plain.specs.Told.{Told, IsToldShelf, IsToldNode, IsOverridden}
 use Rattle.pn_plain.proofs.EdgeLemmas.{edge_law}
 
 -- what an edge adds: nothing, or one package where there is room
@@ -75,25 +72,27 @@ less (suc m) = one_less m refl
 go_on : (t : Told) → IsTotal t → ((text : List ℕ) → IsReadable text) → (g : Given) (n : ℕ) → ((m : ℕ) → n ≡ suc m → Goes t g m) → Goes t g n
 go_on t total can g n later [] met links e = record { end = state [] met links; walk = ends (state [] met links) refl; how = inl refl }
 go_on t total can g n later (turn ∷ rest) met links e = elim (edge_law t total g met turn (can turn.wish.specifier)) [
-    inr refused ↦ record {
-      end = state (turn ∷ rest) met links;
-      walk = ends (state (turn ∷ rest) met links) refl;
-      how = inr (record { turn = turn; rest = rest; next = refl; refused = refused });
-    }
+  | inr refused ↦ record {
+    end = state (turn ∷ rest) met links;
+    walk = ends (state (turn ∷ rest) met links) refl;
+    how = inr (record { turn = turn; rest = rest; next = refl; refused = refused });
+  }
   | inl taken ↦
-    onwards t g (state (turn ∷ rest) met links) (after rest met links turn taken.to taken.added)
-    (record { turn = turn; rest = rest; next = refl; to = taken.to; added = taken.added; takes = taken.takes; is = refl })
-    (elim (adds (IsToldNode t) met taken.takes.aim taken.to taken.added taken.takes.lands) [
-      nothing same ↦ subst (Ends t g)
-        (ap (λ (todo : List Turn). state todo met (links ++ record { turn = turn; to = taken.to } ∷ [])) (sym (append-nil rest))
-        ∙ ap (λ (m : List Node). state (rest ++ []) m (links ++ record { turn = turn; to = taken.to } ∷ [])) (sym (append-nil met))
-        ∙ ap (after rest met links turn taken.to) (sym same))
-        (go_on t total can g n later rest met (links ++ record { turn = turn; to = taken.to } ∷ []) e)
-    | one_new new same room ↦ elim (less n) [
-        none_left z ↦ absurd (no_room (length met) n room e z)
-      | one_less m i ↦ subst (Ends t g) (ap (after rest met links turn taken.to) (sym same))
-          (later m i (rest ++ turns_of (length met) (new ∷ [])) (met ++ new ∷ []) (links ++ record { turn = turn; to = taken.to } ∷ []) (more_room met new n m e i)) ] ])
-  ]
+      onwards t g (state (turn ∷ rest) met links) (after rest met links turn taken.to taken.added)
+      (record { turn = turn; rest = rest; next = refl; to = taken.to; added = taken.added; takes = taken.takes; is = refl })
+      (elim (adds (IsToldNode t) met taken.takes.aim taken.to taken.added taken.takes.lands) [
+        | nothing same ↦ subst (Ends t g)
+            (ap (λ (todo : List Turn). state todo met (links ++ record { turn = turn; to = taken.to } ∷ [])) (sym (append-nil rest))
+            ∙ ap (λ (m : List Node). state (rest ++ []) m (links ++ record { turn = turn; to = taken.to } ∷ [])) (sym (append-nil met))
+            ∙ ap (after rest met links turn taken.to) (sym same))
+            (go_on t total can g n later rest met (links ++ record { turn = turn; to = taken.to } ∷ []) e)
+        | one_new new same room ↦ elim (less n) [
+          | none_left z ↦ absurd (no_room (length met) n room e z)
+          | one_less m i ↦ subst (Ends t g) (ap (after rest met links turn taken.to) (sym same))
+              (later m i (rest ++ turns_of (length met) (new ∷ [])) (met ++ new ∷ []) (links ++ record { turn = turn; to = taken.to } ∷ []) (more_room met new n m e i))
+        ]
+      ])
+]
 
 go : (t : Told) → IsTotal t → ((text : List ℕ) → IsReadable text) → (g : Given) (n : ℕ) → Goes t g n
 go t total can g zero = go_on t total can g zero (λ m e. absurd (omega (arith, e)))
@@ -121,9 +120,10 @@ answer_law t total can i =
     let own = starts t total i.auto_peers 0 i.projects in
     let e = go t total can (given_by i) PACKAGE_LIMIT own.own [] [] refl in
     elim e.how [
-      inl none ↦ inl (record { state = e.end; plain = record { own = own.own; starts = own.are; walked = record { walk = e.walk; none = none } } })
-    | inr s ↦ inr (record {
+      | inl none ↦ inl (record { state = e.end; plain = record { own = own.own; starts = own.are; walked = record { walk = e.walk; none = none } } })
+      | inr s ↦ inr (record {
         state = e.end;
         cause = s.refused.cause;
         unplain = record { own = own.own; starts = own.are; stopped = record { walk = e.walk; turn = s.turn; rest = s.rest; next = s.next; why = s.refused.why } };
-      }) ]
+      })
+    ]

@@ -1,30 +1,25 @@
 -- Each edge is taken or refused.
-use Rattle.std.proofs.Common.{◌≡◌, ℕ, ◌+◌, Bool, true, false, List, [], ◌∷◌, length, Option, Some, None, refl, sym, ap, ◌∙◌, subst, inl, inr}
-use Rattle.std.specs.Prelude.{◌⊎◌, ◌<◌, ◌≤◌, Result, Ok, Err}
+use Rattle.std.proofs.Common.{◌≡◌, ℕ, ◌+◌, Bool, true, false, List, [], ◌∷◌, length, Option, Some, None, refl, sym, subst, inl, inr}
+use Rattle.std.specs.Prelude.{◌⊎◌, Result, Ok, Err}
 use Rattle.std.proofs.lemmas.Bool.{cases_lt}
 use Rattle.semver.specs.Parse.{Parts}
 use Rattle.pn_text.specs.declared.limits.TheConstants.{PACKAGE_LIMIT}
-use Rattle.pn_spec.specs.declared.spec.Spec.{Spec}
 use Rattle.pn_spec.specs.declared.want.Want.{Want}
-use Rattle.pn_spec.specs.Forms.{IsSpec}
-use Rattle.pn_spec.specs.Refusals.{FitsNoForm}
 use Rattle.pn_walk.specs.declared.node.Node.{Node}
 use Rattle.pn_walk.specs.declared.wish.Aim.{Aim}
 use Rattle.pn_walk.specs.declared.wish.Aim.TheVariants.{Project as to_project, Package as to_package}
-use Rattle.pn_walk.specs.declared.wish.Place.{Place}
 use Rattle.pn_walk.specs.declared.wish.Place.TheVariants.{Project as at_project, Package as at_package}
-use Rattle.pn_walk.specs.declared.wish.Wish.{Wish}
 use Rattle.pn_walk.specs.Wants.{Id}
-use Rattle.pn_walk.specs.Walks.{Turn, Takes, Lands, LandsAt, place_of}
+use Rattle.pn_walk.specs.Walks.{Turn, LandsAt, place_of}
 use Rattle.pn_published.specs.Shelves.{Shelf}
 use Rattle.pn_plain.specs.Aims.{Chooses, Borne, ReadingLeads, Reads, Leads, LeadsBy, bearer_of, id_at}
-use Rattle.pn_plain.specs.Causes.{Cause, unsupported, no_catalog, no_project, two_projects, registry, no_version, packages, ReadingRefused, NoProject, Refused, no_form, no_aim, not_met}
+use Rattle.pn_plain.specs.Causes.{Cause, unsupported, no_catalog, no_project, two_projects, registry, no_version, packages, ReadingRefused, NoProject, no_form, no_aim, not_met}
 use Rattle.pn_plain.specs.EdgeLaws.{IsReadable, IsTotal, IsTaken, IsRefused, EdgeLaw}
 use Rattle.pn_plain.specs.Given.{Given, held_of, version_of}
 use Rattle.pn_plain.specs.Readings.{Reading, of_package, of_project, no_entry, reading, Bearer, one, nobody, two}
 use Rattle.pn_plain.specs.Said.{Said}
 use Rattle.pn_plain.specs.Seen.{a_package, one_map, dependency_names, dropped, wishes_of}
-use Rattle.pn_plain.specs.Told.{Told, IsToldShelf, IsGap, IsToldManifest, IsToldNode, IsUnread, IsOverridden}
+use Rattle.pn_plain.specs.Told.{Told, IsToldShelf, IsGap, IsToldNode}
 
 -- a reading leads somewhere, or is refused
 record HasAim (t : Told) (g : Given) (o : Bool) (r : Reading) : Type 0 where
@@ -53,8 +48,9 @@ borne_or_not o (two k j) = inr (two_projects k j, refl)
 aim_or_not : (t : Told) (g : Given) (o : Bool) (r : Reading) → HasAim t g o r ⊎ HasCause t g o r
 aim_or_not t g o (of_package n w) = shelf_or_not t g o n w (t.shelf n) refl
 aim_or_not t g o (of_project n w) = elim (borne_or_not o (bearer_of g n w)) [
-    inl a ↦ inl (record { aim = a.0; leads = a.1 })
-  | inr f ↦ inr (record { cause = f.0; why = f.1 }) ]
+  | inl a ↦ inl (record { aim = a.0; leads = a.1 })
+  | inr f ↦ inr (record { cause = f.0; why = f.1 })
+]
 aim_or_not t g o no_entry = inr (record { cause = no_catalog; why = refl })
 
 -- a package that isn't met yet
@@ -68,30 +64,31 @@ new_or_not t total g met e i leads fresh (Ok said) is =
     let new : Node = record { id = i; wishes = wishes_of face; peers = face.peers } in
     let there : IsToldNode t new = record { said = said; says = is; face = face; seen = record { overridden = over.0; by_rules = over.1; is = refl }; wishes = refl; peers = refl } in
     elim (cases_lt (length met) PACKAGE_LIMIT) [
-      inl room ↦ inl (record {
+      | inl room ↦ inl (record {
         to = Some (at_package (length met));
         added = new ∷ [];
         takes = record {
           aim = Some (to_package i);
           aims = leads;
           lands = subst (λ (o : Option ℕ). LandsAt (IsToldNode t) met i o (Some (at_package (length met))) (new ∷ [])) (sym fresh)
-            (record { new = new; is = there; here = refl; room = room; at = refl; only = refl });
+              (record { new = new; is = there; here = refl; room = room; at = refl; only = refl });
         };
       })
-    | inr full ↦ inr (record { cause = packages (PACKAGE_LIMIT + 1); why = not_met i leads fresh (refl, record { found = new; is = there; here = refl; full = full }) }) ]
+      | inr full ↦ inr (record { cause = packages (PACKAGE_LIMIT + 1); why = not_met i leads fresh (refl, record { found = new; is = there; here = refl; full = full }) })
+    ]
 
 met_or_not : (t : Told) → IsTotal t → (g : Given) (met : List Node) (e : Turn) (i : Id) → Leads (IsToldShelf t) g e.wish (Some (to_package i))
     → (o : Option ℕ) → place_of i met ≡ o → IsTaken t g met e.wish ⊎ IsRefused t g met e
 met_or_not t total g met e i leads None is = new_or_not t total g met e i leads is (t.manifest i) refl
 met_or_not t total g met e i leads (Some k) is = inl (record {
-    to = Some (at_package k);
-    added = [];
-    takes = record {
-      aim = Some (to_package i);
-      aims = leads;
-      lands = subst (λ (o : Option ℕ). LandsAt (IsToldNode t) met i o (Some (at_package k)) []) (sym is) (record { at = refl; only = refl });
-    };
-  })
+  to = Some (at_package k);
+  added = [];
+  takes = record {
+    aim = Some (to_package i);
+    aims = leads;
+    lands = subst (λ (o : Option ℕ). LandsAt (IsToldNode t) met i o (Some (at_package k)) []) (sym is) (record { at = refl; only = refl });
+  };
+})
 
 -- an edge whose wish leads somewhere
 landed_or_not : (t : Told) → IsTotal t → (g : Given) (met : List Node) (e : Turn) (aim : Option Aim) → Leads (IsToldShelf t) g e.wish aim → IsTaken t g met e.wish ⊎ IsRefused t g met e
@@ -105,8 +102,9 @@ read_or_not t total g met e none (inl s) =
     let r = reading g.catalogs e.wish.alias s.0 in
     let reads : Reads g e.wish r = record { spec = s.0; says = s.1; is = refl } in
     elim (aim_or_not t g e.wish.optional r) [
-      inl a ↦ landed_or_not t total g met e a.aim (subst (λ (o : Option Id). LeadsBy (IsToldShelf t) g e.wish o a.aim) (sym none) (r, reads, a.leads))
-    | inr f ↦ inr (record { cause = f.cause; why = no_aim none r reads f.why }) ]
+      | inl a ↦ landed_or_not t total g met e a.aim (subst (λ (o : Option Id). LeadsBy (IsToldShelf t) g e.wish o a.aim) (sym none) (r, reads, a.leads))
+      | inr f ↦ inr (record { cause = f.cause; why = no_aim none r reads f.why })
+    ]
 
 by_chosen : (t : Told) → IsTotal t → (g : Given) (met : List Node) (e : Turn) → IsReadable e.wish.specifier → (c : Option Id) → e.wish.chosen ≡ c → IsTaken t g met e.wish ⊎ IsRefused t g met e
 by_chosen t total g met e can None is = read_or_not t total g met e is can

@@ -1,5 +1,5 @@
--- Each edge is taken or refused.
-use Rattle.std.specs.Prelude.{◌≡◌, ◌⊎◌, ℕ, List, [], Option, Some}
+-- Each edge is taken or refused, and so all inputs have an answer.
+use Rattle.std.specs.Prelude.{◌⊎◌, ℕ, List, Option}
 use Rattle.pn_spec.specs.declared.spec.Spec.{Spec}
 use Rattle.pn_spec.specs.Forms.{IsSpec}
 use Rattle.pn_spec.specs.Refusals.{FitsNoForm}
