@@ -8,6 +8,7 @@ pub mod Plains
 pub mod Told
 pub mod PlainLaws
 pub mod AimLaws
+pub mod EdgeLaws
 pub mod SeenLaws
 pub mod WishLaws
 pub mod Rows

@@ -1,5 +1,6 @@
 // Laws of seen manifests and of the plain graph.
 ghost use Rattle.pn_plain.specs.AimLaws.{AimLaw};
+ghost use Rattle.pn_plain.specs.EdgeLaws.{AnswerLaw, EdgeLaw};
 ghost use Rattle.pn_plain.specs.PlainLaws.{PlainLaw};
 ghost use Rattle.pn_plain.specs.SeenLaws.{SeenLaw};
 ghost use Rattle.pn_plain.specs.Told.{Told};
@@ -24,8 +25,18 @@ pub fn aim_law()
     choice_law();
 }
 
-/// What is told settles one graph, or one refusal and never both. The graph is that of what the projects ask for, and the
-/// refused edge is one that they or a package that they reach ask for.
+/// Each edge is taken or refused: no cause is missing. That each text is a specifier or has no form of one is a premise.
+pub fn edge_law()
+    ensures { (told : Told) → EdgeLaw told }
+{}
+
+/// All inputs have a plain graph or a refusal, under the same premise.
+pub fn answer_law()
+    ensures { (told : Told) → AnswerLaw told }
+{}
+
+/// What is told settles at most one graph, or one refusal and never both. The graph is that of what the projects ask for,
+/// and the refused edge is one that they or a package that they reach ask for.
 pub fn plain_law()
     ensures { (told : Told) → PlainLaw told }
 {}

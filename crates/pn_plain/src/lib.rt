@@ -9,12 +9,13 @@
 //! - `Plains` is the graph: the end of a walk along all edges (`pn_walk`), or the first edge in order that can't be taken.
 //!
 //! What the registry shows, a hook and the overrides are parameters, so the definitions say nothing of trees and files.
-//! `plain_law` says that they settle one graph, or one refusal and never both. `seen_law`, `wish_law` and `aim_law` say what
-//! the steps on the way do in the words of manifests and versions, and `graph_rows` has small graphs.
+//! `plain_law` says that they settle at most one graph, or one refusal and never both, and `answer_law` that there is one of
+//! these. `seen_law`, `wish_law`, `aim_law` and `edge_law` say what the steps on the way do in the words of manifests and
+//! versions, and `graph_rows` has small graphs.
 #![tactic(auto)]
 
 mod laws;
 mod rows;
 
-pub use laws::{aim_law, plain_law, seen_law, wish_law};
+pub use laws::{aim_law, answer_law, edge_law, plain_law, seen_law, wish_law};
 pub use rows::graph_rows;
