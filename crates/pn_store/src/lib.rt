@@ -27,3 +27,6 @@ pub use laws::wrong_law;
 pub use listings::put_listing;
 pub use number::Claim;
 pub use reads::{has, listing, read_piece};
+
+#[cfg(test)]
+mod tests;
