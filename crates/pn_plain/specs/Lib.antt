@@ -1,0 +1,14 @@
+pub mod Said
+pub mod Seen
+pub mod Given
+pub mod Readings
+pub mod Aims
+pub mod Causes
+pub mod Plains
+pub mod Told
+pub mod PlainLaws
+pub mod AimLaws
+pub mod SeenLaws
+pub mod WishLaws
+pub mod Rows
+pub mod GraphRows

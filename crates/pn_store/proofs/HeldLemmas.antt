@@ -1,0 +1,96 @@
+-- Lemmas on the file of a held folder.
+use Rattle.std.proofs.Common.{◌≡◌, ◌≤◌, ℕ, List, ◌++◌, refl, sym, subst, arith, take, length, Option, Some, None, Result, Ok, Err, inl, inr, ◌⊎◌}
+use Rattle.std.specs.Prelude.{OnOk, OnErr, IfErr}
+use Rattle.pn_text.specs.Causes.{HasCause}
+use Rattle.pn_text.specs.declared.fault.DevFault.{DevFault}
+use Rattle.pn_text.specs.declared.fault.DevFault.TheVariants.{Failed, Memory as no_memory}
+use Rattle.pn_storecore.specs.declared.step.StoreStep.{StoreStep}
+use Rattle.pn_storecore.specs.declared.step.StoreStep.TheVariants as step
+use Rattle.pn_storecore.specs.Seen.{Seen, Keeps, Asks}
+use Rattle.pn_storecore.specs.Calls.{Does, Appends}
+use Rattle.pn_storecore.specs.Held.{Holds, IsFree, IsIn, files_after, files_with, no_files}
+use Rattle.pn_storecore.specs.CallLaws.{HoldsLaw, DidLaw, GrewLaw, AsksLaw}
+use Rattle.pn_text.proofs.Results.{on_ok, on_err}
+use Rattle.pn_store.specs.declared.fault.PutFault.{PutFault}
+use Rattle.pn_store.specs.declared.fault.PutFault.TheVariants.{StoreFault as store_fault, Memory as out_of}
+use Rattle.pn_store.specs.Held.{HoldsFile, IsHeld, Works}
+use Rattle.pn_store.specs.Faults.{StoreRefuses, store_answer}
+
+-- what holds after either answer
+pub either : {T E Q : Type 0} (r : Result T E) (A B : Type 0) → OnOk r A → OnErr r B → (A → Q) → (B → Q) → Q
+either (Ok v) A B a b f g = f a
+either (Err e) A B a b f g = g b
+
+-- no file, in either of two words
+pub none_is : HoldsLaw → files_with no_files 0 None ≡ no_files
+none_is laws = laws.emptied 0
+
+-- the answer in this crate's words
+answered : {T : Type 0} (P : Type 0) (r : Result T DevFault) → OnOk r P → OnOk (store_answer r) P
+answered P (Ok v) h = h
+answered P (Err Failed) h = tt
+answered P (Err no_memory) h = tt
+
+pub ok_of : {T : Type 0} (P : Type 0) (r : Result T DevFault) (q : Result T PutFault) → q ≡ store_answer r → OnOk r P → OnOk q P
+ok_of P r q is h = subst (λ q. OnOk q P) (sym is) (answered P r h)
+
+pub err_of : {T : Type 0} (P : Type 0) (r : Result T DevFault) (q : Result T PutFault) → q ≡ store_answer r → OnErr r P → OnErr q P
+err_of P (Ok v) q is h = subst (λ q. OnErr q P) (sym is) tt
+err_of P (Err Failed) q is h = subst (λ q. OnErr q P) (sym is) h
+err_of P (Err no_memory) q is h = subst (λ q. OnErr q P) (sym is) h
+
+-- a folder that was to be dropped, after a refusal
+pub freed_or_held : HoldsLaw → (old new : Seen) (k : ℕ) (r : Result (Unit {0}) DevFault) → Keeps old new → Does old (step.DropTemp k None) new r → HoldsFile old k None → OnErr r (IsHeld new k ⊎ IsFree new k)
+freed_or_held laws old new k r keeps does held = on_err r (λ h. elim h [ inl a ↦ inl (None, subst (Holds new k) (sym (none_is laws)) a) | inr b ↦ inr b ])
+    (laws.free_refused old new k no_files r keeps does (subst (Holds old k) (none_is laws) held))
+
+pub refused : {T : Type 0} (old new : Seen) (r : Result T DevFault) → HasCause old.faults new.faults r → IfErr (store_answer r) (StoreRefuses old new)
+refused old new (Ok v) h = tt
+refused old new (Err Failed) h = h.failed refl
+refused old new (Err no_memory) h = tt
+
+-- after a step on the file of a held folder
+pub works_by : HoldsLaw → DidLaw → GrewLaw → (old new : Seen) (own : StoreStep) (k : ℕ) (b c : Option (List ℕ)) (r : Result (Unit {0}) DevFault) → Keeps old new → Does old own new r → HasCause old.faults new.faults r → IsIn k own → Asks old own
+    → files_after own (files_with no_files 0 b) ≡ files_with no_files 0 c → HoldsFile old k b → OnOk r (HoldsFile new k c) × Works k old new
+works_by holds did grew old new own k b c r keeps does cause inside asks is held =
+    let made = holds.made old new own k (files_with no_files 0 b) r keeps inside does held in
+    let left = holds.refused old new own k (files_with no_files 0 b) r keeps inside does held in
+    let done : OnOk r (HoldsFile new k c) = on_ok r (λ h. subst (Holds new k) is h) made in (
+      done,
+      record {
+        held = either r (HoldsFile new k c) (Holds new k (files_with no_files 0 b) ⊎ Holds new k (files_after own (files_with no_files 0 b))) done left (λ h. (c, h)) (λ h. elim h [ inl a ↦ (b, a) | inr a ↦ (c, subst (Holds new k) is a) ]);
+        grew = grew.call old new own asks (did.does old new own r keeps does);
+        later = cause.later;
+      },
+    )
+
+pub works_append : HoldsLaw → DidLaw → GrewLaw → AsksLaw → (old new : Seen) (k : ℕ) (more bytes : List ℕ) (r : Result (Unit {0}) DevFault) → Keeps old new → Appends old k 0 more new r → HasCause old.faults new.faults r
+    → HoldsFile old k (Some bytes) → OnOk r (HoldsFile new k (Some (bytes ++ more))) × Works k old new
+works_append holds did grew asks old new k more bytes r keeps does cause held =
+    let files = files_with no_files 0 (Some bytes) in
+    let same : (x : List ℕ) → files_after (step.Append k 0 x) files ≡ files_with no_files 0 (Some (bytes ++ x)) = λ x. holds.again no_files 0 (Some bytes) (Some (bytes ++ x)) in
+    let made = holds.appended old new k 0 more files r keeps does held in
+    let left = holds.append_refused old new k 0 more files r keeps does held in
+    let done : OnOk r (HoldsFile new k (Some (bytes ++ more))) = on_ok r (λ h. subst (Holds new k) (same more) h) made in (
+      done,
+      record {
+        held = either r (HoldsFile new k (Some (bytes ++ more))) (Holds new k files ⊎ ((i : ℕ) × (i ≤ length more) × Holds new k (files_after (step.Append k 0 (take i more)) files))) done left (λ h. (Some (bytes ++ more), h))
+            (λ h. elim h [ inl a ↦ (Some bytes, a) | inr a ↦ (Some (bytes ++ take a.0 more), subst (Holds new k) (same (take a.0 more)) a.2) ]);
+        grew = grew.call old new (step.Append k 0 more) (asks.append old k 0 more bytes files held refl) (did.append old new k 0 more r keeps does);
+        later = cause.later;
+      },
+    )
+
+-- one call after another
+pub works_twice : GrewLaw → (k : ℕ) (a b c : Seen) → Works k a b → Works k b c → Works k a c
+works_twice grew k a b c h w = record { held = w.held; grew = grew.both a b c h.grew w.grew; later = omega (arith, h.later, w.later) }
+
+-- no call
+pub works_none : GrewLaw → (k : ℕ) (a : Seen) → IsHeld a k → Works k a a
+works_none grew k a held = record { held = held; grew = grew.none a; later = omega arith }
+
+-- a refusal of the store behind other calls
+pub refuses_from : (a b c : Seen) (e : PutFault) → a.faults ≤ b.faults → StoreRefuses b c e → StoreRefuses a c e
+refuses_from a b c store_fault l h = omega (arith, l, h)
+refuses_from a b c out_of l h = tt
+refuses_from a b c e l h = h

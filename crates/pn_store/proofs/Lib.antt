@@ -1,0 +1,6 @@
+pub mod HeldLemmas
+pub mod ClaimsLemmas
+pub mod ReadsLemmas
+pub mod BeginsLemmas
+pub mod PutsLemmas
+pub mod MetLemmas

@@ -1,0 +1,27 @@
+use Rattle.std.proofs.Common.{refl, None, Some}
+use Rattle.pn_storecore.specs.declared.step.Place.TheVariants.{Listings}
+use Rattle.pn_storecore.specs.declared.step.StoreStep.TheVariants.{PublishListing}
+use Rattle.pn_storecore.specs.Held.{files_with, no_files, HasBytes}
+use Rattle.pn_store.proofs.HeldLemmas.{works_by, ok_of}
+use Rattle.pn_store.proofs.calls.publish_listing.Goals as goal
+
+pub returns-clause-stands : goal.returns-clause-stands
+returns-clause-stands g c text held =
+    let seen = g.D.StoreDisk.seen in
+    let d = c.publish_listing in
+    let one = seen c.args.disk.now in
+    let two = seen d.new.self in
+    ok_of (HasBytes two Listings c.args.at.now text) d.result c.of_store.result c.of_store.ensures
+    (c.stands_law.ensures.listing one two c.args.k 0 c.args.at.now text (files_with no_files 0 (Some text)) d.result d.ensures.kept d.ensures.step held refl)
+
+pub returns-clause-works : goal.returns-clause-works
+returns-clause-works g c =
+    let seen = g.D.StoreDisk.seen in
+    let k = c.args.k in
+    let at = c.args.at.now in
+    let d = c.publish_listing in
+    let one = seen c.args.disk.now in
+    let h = c.requires.holds in
+    let files = files_with no_files 0 (Some h.0) in
+    (works_by c.holds_law.ensures c.did_law.ensures c.grew_law.ensures one (seen d.new.self) (PublishListing k 0 at) k (Some h.0) None d.result d.ensures.kept d.ensures.step d.ensures.cause refl
+    (c.asks_law.ensures.publish_listing one k 0 at h.0 files h.1 refl h.2 h.3 h.4 c.requires.shard) (c.holds_law.ensures.again no_files 0 (Some h.0) None) h.1).1

@@ -1,0 +1,27 @@
+use Rattle.std.proofs.Common.{◌≤◌, ◌-◌, ℕ}
+use Rattle.std.specs.Option.{ForSome}
+use Rattle.pn_fs.specs.Seen.{Keeps}
+use Rattle.pn_storecore.specs.declared.step.Place.TheVariants.{Files}
+use Rattle.pn_storecore.specs.Held.{Holds, TempFiles}
+use Rattle.pn_storecore.specs.Grew.{Grew}
+use Rattle.pn_store.specs.Begins.{BeginsAt}
+use Rattle.pn_store.proofs.ReadsLemmas.{IsReading}
+use Rattle.pn_store.proofs.compare.compare.Given as goal
+
+-- the first bytes are read, and are the source's or not
+abbrev pub invariant-pieces : goal.invariant-pieces
+invariant-pieces g l =
+    let store = g.D.StoreDisk.seen in
+    let source = g.R.ReadFs.seen in
+    record {
+      reading : IsReading Files l.at l.place l.hasher (store l.fn.disk) (store l.disk);
+      begins : ForSome (source l.fn.from).tree (λ r. BeginsAt (r l.path) 0 reading.bytes l.same);
+      within : l.place ≤ 268435456;
+      kept : Keeps (source l.fn.from) (source l.from);
+      left : (k : ℕ) (files : TempFiles) → Holds (store l.fn.disk) k files → Holds (store l.disk) k files;
+      grew : Grew (store l.fn.disk) (store l.disk);
+      later : (store l.fn.disk).faults ≤ (store l.disk).faults;
+    }
+
+abbrev pub decreases-pieces : goal.decreases-pieces
+decreases-pieces g l = 268435457 - l.place

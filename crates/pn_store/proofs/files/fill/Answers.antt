@@ -1,0 +1,40 @@
+use Rattle.std.proofs.Common.{◌≤◌, [], length, refl, arith, rules, Some}
+use Rattle.pn_store.proofs.HeldLemmas.{works_none, works_twice}
+use Rattle.pn_store.proofs.PutsLemmas.{starts, piece_of, goes_on, ends, not_large, short_is_file}
+use Rattle.pn_store.specs.Faults.{IsLong}
+use Rattle.pn_store.proofs.files.fill.Goals as goal
+
+pub pieces-init : goal.pieces-init
+pieces-init g c =
+    record {
+      filling = starts _ _ _ _ _ c.requires.held c.new-hasher.ensures c.requires.file;
+      within = omega arith;
+      kept = record { tree = refl; touched = refl; later = omega arith };
+      works = works_none c.grew_law.ensures c.args.k (g.D.StoreDisk.seen c.args.disk.now) (Some [], c.requires.held);
+    }
+
+pub source_piece-requires-clause-file : goal.source_piece-requires-clause-file
+source_piece-requires-clause-file g c = short_is_file _ _ _ c.pieces.invariant.kept.tree c.requires.file
+
+pub returns-then-count-eq0-clause-filled : goal.returns-then-count-eq0-clause-filled
+returns-then-count-eq0-clause-filled g c =
+    let inv = c.pieces.invariant in
+    ends _ _ _ _ _ _ c.pieces.hasher _ c.finish.result inv.filling (piece_of _ _ _ _ _ _ inv.kept.tree c.in_ok-count.ensures.piece) c.if-count-eq0.true inv.within c.finish.ensures.digest c.finish.ensures.length
+
+pub returns-then-next-gt-FILE_LIMIT-clause-fault : goal.returns-then-next-gt-FILE_LIMIT-clause-fault
+returns-then-next-gt-FILE_LIMIT-clause-fault g c =
+    let inv = c.pieces.invariant in
+    (omega arith, not_large _ c.args.path.now _ _ _ _ _ _ inv.filling (piece_of _ _ _ _ _ _ inv.kept.tree c.in_ok-count.ensures.piece) c.requires.file c.if-next-gt-FILE_LIMIT.true (λ r. IsLong (r c.args.path.now) 268435457))
+
+pub pieces-preserved : goal.pieces-preserved
+pieces-preserved g c =
+    let inv = c.pieces.invariant in
+    let seen = g.D.StoreDisk.seen in
+    let h = inv.filling in
+    let within : c.in_ok-count.count ≤ length c.source_piece.new.into = omega (arith, c.in_ok-count.ensures.within, c.source_piece.auto.into) in
+    record {
+      filling = goes_on _ _ _ _ _ _ c.pieces.hasher _ _ _ h (piece_of _ _ _ _ _ _ inv.kept.tree c.in_ok-count.ensures.piece) within (c.in_ok-take_in.ensures.ok h.bytes h.holds) (c.in_ok-take_in.ensures.hashed h.bytes h.hashed);
+      within = c.if-next-gt-FILE_LIMIT.false;
+      kept = search rules;
+      works = works_twice c.grew_law.ensures c.args.k (seen c.args.disk.now) (seen c.pieces.disk) (seen c.take_in.new.disk) inv.works c.in_ok-take_in.ensures.works;
+    }

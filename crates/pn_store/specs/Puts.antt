@@ -1,0 +1,67 @@
+-- What a put of a file leaves.
+use Rattle.std.specs.Prelude.{◌≡◌, ◌≢◌, ◌≤◌, ◌<◌, ℕ, List, Option, IfSome, Some, None, length}
+use Rattle.sha2.specs.Sha512.{sha512}
+use Rattle.pn_text.specs.declared.limits.TheConstants.{FILE_LIMIT}
+use Rattle.pn_text.specs.Path.{Path}
+use Rattle.pn_fs.specs.Tree.{Tree, file}
+use Rattle.pn_storecore.specs.declared.step.Place.TheVariants.{Files}
+use Rattle.pn_storecore.specs.Seen.{Seen}
+use Rattle.pn_storecore.specs.Held.{HasObject}
+use Rattle.pn_storecore.specs.Grew.{Was}
+use Rattle.pn_store.specs.Held.{HoldsFile}
+use Rattle.pn_store.specs.Reads.{StoodThere}
+use Rattle.pn_store.specs.declared.compare.Met.{Met}
+use Rattle.pn_store.specs.declared.compare.Met.TheVariants as met
+use Rattle.pn_store.specs.declared.files.Put.{Put}
+
+-- the source has these bytes at the path, where it is told
+abbrev pub IsSource : Option Tree → Path → List ℕ → Type 0
+IsSource source p bytes = IfSome source (λ r. r p ≡ Some (file bytes))
+
+-- What was read at the address before a put published there: nothing, the source's bytes, bytes of another digest, or
+-- more than the limit. So no other bytes than the source's that have the address as digest.
+pub data IsMet (source : Option Tree) (p : Path) (at : List ℕ) (old new : Seen) : Type 0 where
+  absent : Was Files at None old new → IsMet source p at old new
+  same : (stored : List ℕ) → IsSource source p stored → StoodThere Files at stored old new → IsMet source p at old new
+  other : (stored : List ℕ) → sha512 stored ≢ at → StoodThere Files at stored old new → IsMet source p at old new
+  long : (stored : List ℕ) → FILE_LIMIT < length stored → StoodThere Files at stored old new → IsMet source p at old new
+
+-- the same, by what the comparison answers
+abbrev pub IsFound : Option Tree → Path → List ℕ → Seen → Seen → Met → Type 0
+IsFound source p at old new met.Absent = Was Files at None old new
+IsFound source p at old new met.Same = (stored : List ℕ) × IsSource source p stored × StoodThere Files at stored old new
+IsFound source p at old new (met.Other d) = (stored : List ℕ) × (sha512 stored ≡ d) × IfSome source (λ r. r p ≢ Some (file stored)) × StoodThere Files at stored old new
+IsFound source p at old new met.Long = (stored : List ℕ) × (FILE_LIMIT < length stored) × StoodThere Files at stored old new
+
+-- At a step between, the source's bytes stood at the address that they have, and something stands there now.
+pub record IsPut (source : Option Tree) (p : Path) (old new : Seen) (put : Put) : Type 0 where
+  pub bytes : List ℕ
+  pub digest : put.digest ≡ sha512 bytes
+  pub size : put.length ≡ length bytes
+  pub short : length bytes ≤ FILE_LIMIT
+  pub from : IsSource source p bytes
+  pub met : IsMet source p put.digest old new
+  pub was : Was Files put.digest (Some bytes) old new
+  pub stands : HasObject new Files put.digest
+
+-- The file of a held folder has the source's bytes, and the put tells their digest and length.
+pub record IsFilled (source : Option Tree) (p : Path) (k : ℕ) (s : Seen) (put : Put) : Type 0 where
+  pub bytes : List ℕ
+  pub digest : put.digest ≡ sha512 bytes
+  pub size : put.length ≡ length bytes
+  pub short : length bytes ≤ FILE_LIMIT
+  pub from : IsSource source p bytes
+  pub holds : HoldsFile s k (Some bytes)
+
+-- a file of at most 268,435,456 bytes
+pub record IsShortFile (r : Tree) (p : Path) : Type 0 where
+  pub bytes : List ℕ
+  pub stands : r p ≡ Some (file bytes)
+  pub short : length bytes ≤ FILE_LIMIT
+
+-- The source has bytes of this digest and length.
+pub record HasSource (source : Option Tree) (p : Path) (at : List ℕ) (size : ℕ) : Type 0 where
+  pub bytes : List ℕ
+  pub digest : sha512 bytes ≡ at
+  pub count : size ≡ length bytes
+  pub from : IsSource source p bytes
