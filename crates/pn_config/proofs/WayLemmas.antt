@@ -1,41 +1,19 @@
 -- Ways up and down.
-use Rattle.std.proofs.Common.{◌≡◌, ℕ, suc, zero, ◌+◌, ◌≤◌, List, [], ◌∷◌, ◌++◌, length, take, drop, refl, sym, ap, ◌∙◌, subst, append_assoc, arith, Some, None, lit<, length-append}
-use Rattle.std.specs.Prelude.{Option, ◌==◌, not, IsTrue}
-use Rattle.std.specs.Option.{MatchOption}
-use Rattle.std.specs.Str.{NoCharPasses}
-use Rattle.std.specs.Str.Pattern.{RFindsChar, SplitsAroundMatch}
-use Rattle.std.proofs.lemmas.List.{take-append-drop}
-use Rattle.std.proofs.lemmas.Str.Pattern.{NoCharPasses-char, drop_at_char}
+use Rattle.std.proofs.Common.{◌≡◌, ℕ, suc, zero, ◌+◌, ◌≤◌, List, [], ◌∷◌, ◌++◌, length, refl, sym, ap, ◌∙◌, subst, append_assoc, arith, length-append}
+use Rattle.std.specs.Prelude.{IsTrue}
 use Rattle.std.specs.Cmp.Derive.{both_true}
-use denote.Ref.{Bor}
 use Rattle.pn_text.specs.declared.fault.PathFault.{PathFault}
 use Rattle.pn_text.specs.declared.fault.PathFault.TheVariants as path
 use Rattle.pn_text.specs.Faults.{JoinFault}
 use Rattle.pn_text.specs.Path.{Path, is_flat, is_part, is_path, path_text, tail_of, text_below}
 use Rattle.pn_text.specs.Relative.{above}
 use Rattle.pn_text.proofs.Bools.{and_left, and_right}
-use Rattle.pn_text.proofs.Bytes.{no_slash}
+use Rattle.pn_text.proofs.Cuts.{parts_cut}
 use Rattle.pn_text.proofs.Joins.{is_path-append, text_below-append}
-use Rattle.pn_text.proofs.Paths.{not_true, parts_from-append, parts_from-flat}
+use Rattle.pn_text.proofs.Paths.{not_true, parts_from-flat}
 use Rattle.pn_config.specs.declared.folder.Way.{Way}
 use Rattle.pn_config.specs.Folders.{led_by}
 use Rattle.pn_config.specs.Ways.{PutsName, PutsPart, led_along}
-
-flat_text : (bs : List ℕ) → NoCharPasses (λ d. d == 47) bs → IsTrue (is_flat bs)
-flat_text bs h = ap not (no_slash bs (λ i l. NoCharPasses-char 47 bs i h (lit< tt) l))
-
--- a text is cut at its last slash
-pub last_cut : (text : List ℕ) (r : Option (Bor (List ℕ) × Bor (List ℕ))) → MatchOption r (RFindsChar 47 text None) (λ x. SplitsAroundMatch (RFindsChar 47) text x.0.now x.1.now)
-    → MatchOption r (IsTrue (is_flat text)) (λ cut. (text ≡ cut.0.now ++ 47 ∷ cut.1.now) × IsTrue (is_flat cut.1.now))
-last_cut text None h = flat_text text h
-last_cut text (Some x) (i, j, finds, front, back, le, len, size) = (
-  sym (take-append-drop i text) ∙ ap (λ l. take i text ++ l) (drop_at_char 47 text i j finds.1 (lit< tt)) ∙ ap (λ l. l ++ 47 ∷ drop j text) (sym front) ∙ ap (λ l. x.0.now ++ 47 ∷ l) (sym back),
-  ap is_flat back ∙ flat_text (drop j text) finds.0,
-)
-
-parts_cut : (front rest part : List ℕ) → front ≡ rest ++ 47 ∷ part → IsTrue (is_flat part) → tail_of front ≡ part ∷ tail_of rest
-parts_cut front rest part cut flat =
-    ap tail_of cut ∙ parts_from-append (47 ∷ rest) (47 ∷ part) [] ∙ parts_from-flat part (tail_of rest) [] (not_true _ flat)
 
 one_part : (front : List ℕ) → IsTrue (is_flat front) → tail_of front ≡ front ∷ []
 one_part front flat = parts_from-flat front [] [] (not_true _ flat)

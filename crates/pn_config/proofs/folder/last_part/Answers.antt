@@ -1,4 +1,4 @@
-use Rattle.pn_config.proofs.WayLemmas.{last_cut}
+use Rattle.pn_text.proofs.Cuts.{last_cut}
 use Rattle.pn_config.proofs.folder.last_part.Goals as goal
 
 pub returns : goal.returns

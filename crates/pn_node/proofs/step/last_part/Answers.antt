@@ -1,4 +1,4 @@
-use Rattle.pn_node.proofs.StepTexts.{last_cut}
+use Rattle.pn_text.proofs.Cuts.{last_cut}
 use Rattle.pn_node.proofs.step.last_part.Goals as goal
 
 pub returns : goal.returns
