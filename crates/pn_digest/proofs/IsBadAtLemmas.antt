@@ -12,6 +12,7 @@ use Rattle.pn_digest.proofs.PlaceLemmas.{in_front_more, at_place, one_at, within
 use Rattle.pn_digest.proofs.IsRelPathLemmas.{goes_on, text_goes_on}
 use Rattle.pn_text.proofs.Members.{none_in}
 use Rattle.pn_text.proofs.Bools.{true_false}
+use Rattle.pn_text.proofs.Numbers.{below}
 
 -- No path before this place is bad.
 pub record NoneBad (files : List Entry) (i : ℕ) : Type 0 where
@@ -20,9 +21,6 @@ pub record NoneBad (files : List Entry) (i : ℕ) : Type 0 where
 
 pub none_bad : (files : List Entry) → NoneBad files 0
 none_bad files = record { none = λ k lt. absurd (omega (arith, lt)); entries = λ e h. absurd (none_in e h) }
-
-pub below : (k i : ℕ) → nat_lt k i ≡ true → k < i
-below k i e = grind (arith, nat_tests, e)
 
 pub last : (k i : ℕ) → nat_lt k i ≡ false → k < i + 1 → k ≡ i
 last k i e lt = grind (arith, nat_tests, e)

@@ -3,6 +3,7 @@ use Rattle.std.proofs.Common.{◌≡◌, ℕ, ◌+◌, ◌<◌, ◌≤◌, List,
 use Rattle.std.specs.Prelude.{◌⊎◌, ◌↔◌, IsTrue, nat_lt}
 use Rattle.std.proofs.lemmas.Bool.Decides.{nat_tests}
 use Rattle.pn_digest.specs.Folders.{IsFolderText}
+use Rattle.pn_text.proofs.Numbers.{below}
 use Rattle.pn_text.proofs.Bytes.{around_slash, at_seam, before_seam}
 
 -- the text is the front before a slash that stands before i
@@ -15,9 +16,6 @@ AddsFronts old new path i = (t : List ℕ) → IsTrue (new t) ↔ (IsTrue (old t
 
 later : (path : List ℕ) (i : ℕ) (t : List ℕ) → IsFrontBefore path i t → IsFrontBefore path (i + 1) t
 later path i t f = (f.0, omega (arith, f.1), f.2, f.3)
-
-below : (k i : ℕ) → nat_lt k i ≡ true → k < i
-below k i e = grind (arith, nat_tests, e)
 
 last : (k i : ℕ) → nat_lt k i ≡ false → k < i + 1 → k ≡ i
 last k i e lt = let le : i ≤ k = grind (arith, nat_tests, e) in omega (arith, le, lt)

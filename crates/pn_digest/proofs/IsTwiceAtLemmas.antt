@@ -5,7 +5,8 @@ use Rattle.std.specs.Str.{bytes_eq}
 use Rattle.std.proofs.lemmas.Slice.Eq.{bytes_eq-Decides}
 use Rattle.pn_digest.specs.Listing.{Entry, IsRelPath, rel_text}
 use Rattle.pn_digest.specs.ListingFaults.{IsTwiceAt, IsFirst, IsNowhere}
-use Rattle.pn_digest.proofs.IsBadAtLemmas.{each_more, below, last}
+use Rattle.pn_digest.proofs.IsBadAtLemmas.{each_more, last}
+use Rattle.pn_text.proofs.Numbers.{below}
 use Rattle.pn_digest.proofs.PlaceLemmas.{at_place, one_at, within_at}
 use Rattle.pn_digest.proofs.IsRelPathLemmas.{same_rel}
 use Rattle.pn_text.proofs.Bools.{or_cases, or_cond, or_right, true_false}

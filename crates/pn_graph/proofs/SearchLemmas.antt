@@ -12,6 +12,7 @@ use Rattle.std.proofs.lemmas.List.Sorted.{searchable_from_sorted}
 use Rattle.std.proofs.lemmas.Map.Text.{is_eq-slice_cmp}
 use Rattle.std.proofs.lemmas.Slice.Eq.{bytes_eq-Decides}
 use Rattle.pn_text.proofs.Bools.{and_left, and_right}
+use Rattle.pn_text.proofs.Numbers.{below}
 use Rattle.pn_text.proofs.Orders.{is_less, not_before_self, not_both_before}
 use Rattle.pn_graph.specs.Graphs.{Dep, aliases, rises}
 use Rattle.pn_graph.specs.Lookups.{dep_at}
@@ -74,9 +75,6 @@ tied x y e = (bytes_eq-Decides x y).0 (sym (is_eq-slice_cmp x y) ∙ ap is_eq e)
 
 not_after_itself : (x : List ℕ) → cmp x x ≡ Greater → ⊥
 not_after_itself x h = let same = tied_itself nat_list_cmp_total x in cc (same, h)
-
-below : (k n : ℕ) → nat_lt k n ≡ true → k < n
-below k n e = grind (arith, nat_tests, e)
 
 not_below : (k n : ℕ) → nat_lt k n ≡ false → n ≤ k
 not_below k n e = grind (arith, nat_tests, e)

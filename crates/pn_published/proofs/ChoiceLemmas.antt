@@ -6,6 +6,7 @@ use Rattle.std.proofs.lemmas.Map.Keys.{Less-from_sorted}
 use Rattle.std.proofs.lemmas.Option.{slice_get_within, get_or_from_slice_get}
 use Rattle.semver.specs.Parse.{Parts}
 use Rattle.pn_text.proofs.Bools.{true_false}
+use Rattle.pn_text.proofs.Results.{same_some}
 use Rattle.pn_published.specs.Versions.{IsRising, version_cmp}
 use Rattle.pn_published.specs.Places.{or_else, last_place}
 use Rattle.pn_published.specs.Choice.{fits, is_held, passes, if_passes, NonePasses, IsGreatest, IsLatest, LatestFails, IsChoice, greatest_held, the_latest, the_greatest, none, ChoiceLaw}
@@ -25,9 +26,6 @@ record IsLast (test : Parts → Bool) (versions : List Parts) (k : ℕ) : Type 0
 data Lasts (test : Parts → Bool) (versions : List Parts) (o : Option ℕ) : Type 0 where
   at : (k : ℕ) → o ≡ Some k → IsLast test versions k → Lasts test versions o
   nowhere : o ≡ None → NonePasses test versions → Lasts test versions o
-
-pub one_some : {A : Type 0} {x y : A} → Some x ≡ Some y → x ≡ y
-one_some e = cc
 
 lasts : (test : Parts → Bool) (versions : List Parts) → Lasts test versions (last_place test versions)
 lasts test [] = nowhere refl (λ j u h. none_is_some h) where
@@ -52,7 +50,7 @@ lasts test (v ∷ vs) = elim (lasts test vs) [
     above n (suc j) u h is = n j u is
 
     all : test v ≡ false → NonePasses test vs → (j : ℕ) (u : Parts) → slice_get (v ∷ vs) j ≡ Some u → test u ≡ false
-    all f n zero u is = ap test (sym (one_some is)) ∙ f
+    all f n zero u is = ap test (sym (same_some _ _ is)) ∙ f
     all f n (suc j) u is = n j u is
 
 -- where versions rise, the last is the greatest
@@ -87,10 +85,10 @@ latests test versions None = fails refl (λ k v e. absurd (never e)) where
   never : {k : ℕ} → None ≡ Some k → ⊥
   never e = cc e
 latests test versions (Some k) = elim (slice_get versions k) as (λ o. slice_get versions k ≡ o → Latests test versions (Some k) (if passes test o then Some k else None)) [
-  | None ↦ λ is. fails refl (λ j v e at. absurd (none_some (sym is ∙ ap (slice_get versions) (one_some e) ∙ at)))
+  | None ↦ λ is. fails refl (λ j v e at. absurd (none_some (sym is ∙ ap (slice_get versions) (same_some _ _ e) ∙ at)))
   | Some v ↦ λ is. elim (test v) as (λ b. test v ≡ b → Latests test versions (Some k) (if b then Some k else None)) [
     | true ↦ λ yes. fits_it k refl (record { version = v; there = is; passes = yes; is = refl })
-    | false ↦ λ f. fails refl (λ j u e at. ap test (one_some (sym at ∙ ap (slice_get versions) (sym (one_some e)) ∙ is)) ∙ f)
+    | false ↦ λ f. fails refl (λ j u e at. ap test (same_some _ _ (sym at ∙ ap (slice_get versions) (sym (same_some _ _ e)) ∙ is)) ∙ f)
   ] refl
 ] refl
   where

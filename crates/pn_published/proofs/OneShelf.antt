@@ -10,14 +10,14 @@ use Rattle.pn_published.specs.Versions.{version_cmp}
 use Rattle.pn_published.specs.Tags.{Said, said_by, AreTags, IsTagsFile}
 use Rattle.pn_published.specs.Shelves.{Shelf, AreVersions, HasFew, HasMany, IsPublished, shelf_with}
 use Rattle.pn_published.specs.Refusals.{IsUnpublished, PublishedLaw}
-use Rattle.pn_published.proofs.ChoiceLemmas.{one_some}
+use Rattle.pn_text.proofs.Results.{same_some}
 use Rattle.pn_published.proofs.Rising.{rising_same}
 use Rattle.pn_published.proofs.VersionOrders.{version_asym}
 
 one_tags : (bytes : List ℕ) (a b : List Said) → AreTags bytes a → AreTags bytes b → a ≡ b
 one_tags bytes a b h k =
-    let value : h.value ≡ k.value = one_some (sym h.read ∙ k.read) in
-    one_some (sym h.is ∙ ap said_by value ∙ k.is)
+    let value : h.value ≡ k.value = same_some _ _ (sym h.read ∙ k.read) in
+    same_some _ _ (sym h.is ∙ ap said_by value ∙ k.is)
 
 one_said : (e : Option Entry) (a b : List Said) → IsTagsFile e a → IsTagsFile e b → a ≡ b
 one_said None a b h k = h ∙ sym k

@@ -30,3 +30,6 @@ for_some P (Some u) h t e = let one : u ≡ t = cc in subst P one h
 pub if_some : {T : Type 0} (P : T → Type 0) (o : Option T) → ForSome o P → IfSome o P
 if_some P None h = tt
 if_some P (Some u) h = h u refl
+
+pub same_some : {T : Type 0} (x y : T) → Some x ≡ Some y → x ≡ y
+same_some x y e = cc
