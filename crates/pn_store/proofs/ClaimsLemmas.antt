@@ -1,5 +1,5 @@
 -- Lemmas on numbers that are tried.
-use Rattle.std.proofs.Common.{◌≡◌, ◌≢◌, ◌≤◌, ◌+◌, ℕ, sym, subst, arith, Bool, true, false, Option, None, Result, Ok, Err, inl, inr, ◌⊎◌, eq-or-lt_of_le}
+use Rattle.std.proofs.Common.{◌≡◌, ◌≢◌, ◌≤◌, ◌+◌, ℕ, sym, subst, arith, Bool, true, false, Option, None, Result, Ok, Err, inl, inr, eq-or-lt_of_le}
 use Rattle.std.specs.Prelude.{IfOk, OnErr}
 use Rattle.std.specs.Bool.{OnTrue, OnFalse}
 use Rattle.pn_text.specs.declared.fault.DevFault.{DevFault}
@@ -13,11 +13,8 @@ use Rattle.pn_storecore.proofs.UpdateLemmas.{at_number}
 use Rattle.pn_text.proofs.Results.{on_err}
 use Rattle.pn_store.specs.Claims.{IsClaimed, IsTried, AreTaken}
 
-none : ℕ → Option ℕ
-none q = None
-
-same_or_not : (j k : ℕ) → (j ≡ k) ⊎ (j ≢ k)
-same_or_not j k = elim (at_number none j None k) [ inl h ↦ inl h.0 | inr h ↦ inr h.0 ]
+none_at : ℕ → Option ℕ
+none_at q = None
 
 ok_at : {T E : Type 0} (P : T → Type 0) (r : Result T E) (v : T) → r ≡ Ok v → IfOk r P → P v
 ok_at P r v is h = subst (λ x. IfOk x P) is h
@@ -44,16 +41,16 @@ claimed holds did claims old new k r false is keeps step = tt
 -- one that answered false made the folder of no number
 pub others : DidLaw → ClaimsLaw → (old new : Seen) (k : ℕ) (r : Result Bool DevFault) (free : Bool) → r ≡ Ok free → Keeps old new → Answers old (Claim k) new r (IsClaim k) → OnFalse free ((j : ℕ) → TookNone j old new)
 others did claims old new k r true is keeps step = tt
-others did claims old new k r false is keeps step = λ j. elim (same_or_not j k) [
-  | inl e ↦ subst (λ n. TookNone n old new) (sym e) (ok_at (λ free. OnFalse free (TookNone k old new)) r false is (claims.found old new k r keeps step))
-  | inr e ↦ not_other did claims old new k r keeps step j e
+others did claims old new k r false is keeps step = λ j. elim (at_number none_at j None k) [
+  | inl e ↦ subst (λ n. TookNone n old new) (sym e.0) (ok_at (λ free. OnFalse free (TookNone k old new)) r false is (claims.found old new k r keeps step))
+  | inr e ↦ not_other did claims old new k r keeps step j e.0
 ]
 
 -- one that was refused
 pub tried : HoldsLaw → DidLaw → ClaimsLaw → (old new : Seen) (k : ℕ) (r : Result Bool DevFault) → Keeps old new → Answers old (Claim k) new r (IsClaim k) → OnErr r (IsTried old new)
 tried holds did claims old new k r keeps step = on_err r (λ h. elim h [
   | inl held ↦ inr (k, subst (Holds new k) (sym (holds.emptied 0)) held, not_other did claims old new k r keeps step)
-  | inr none ↦ inl (λ j. elim (same_or_not j k) [ inl e ↦ subst (λ n. TookNone n old new) (sym e) none | inr e ↦ not_other did claims old new k r keeps step j e ])
+  | inr none ↦ inl (λ j. elim (at_number none_at j None k) [ inl e ↦ subst (λ n. TookNone n old new) (sym e.0) none | inr e ↦ not_other did claims old new k r keeps step j e.0 ])
 ]) (claims.refused old new k r keeps step)
 
 -- before it all the numbers were taken

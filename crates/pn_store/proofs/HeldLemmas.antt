@@ -1,6 +1,6 @@
 -- Lemmas on the file of a held folder.
 use Rattle.std.proofs.Common.{◌≡◌, ◌≤◌, ℕ, List, ◌++◌, refl, sym, subst, arith, take, length, Option, Some, None, Result, Ok, Err, inl, inr, ◌⊎◌}
-use Rattle.std.specs.Prelude.{OnOk, OnErr, IfErr}
+use Rattle.std.specs.Prelude.{OnOk, OnErr}
 use Rattle.pn_text.specs.Causes.{HasCause}
 use Rattle.pn_text.specs.declared.fault.DevFault.{DevFault}
 use Rattle.pn_text.specs.declared.fault.DevFault.TheVariants.{Failed, Memory as no_memory}
@@ -12,9 +12,12 @@ use Rattle.pn_storecore.specs.Held.{Holds, IsFree, IsIn, files_after, files_with
 use Rattle.pn_storecore.specs.CallLaws.{HoldsLaw, DidLaw, GrewLaw, AsksLaw}
 use Rattle.pn_text.proofs.Results.{on_ok, on_err}
 use Rattle.pn_store.specs.declared.fault.PutFault.{PutFault}
-use Rattle.pn_store.specs.declared.fault.PutFault.TheVariants.{StoreFault as store_fault, Memory as out_of}
 use Rattle.pn_store.specs.Held.{HoldsFile, IsHeld, Works}
-use Rattle.pn_store.specs.Faults.{StoreRefuses, store_answer}
+use Rattle.pn_store.specs.Faults.{store_answer}
+
+pub any_ok : {T E P : Type 0} (r : Result T E) → P → OnOk r P
+any_ok (Ok v) h = h
+any_ok (Err e) h = tt
 
 -- what holds after either answer
 pub either : {T E Q : Type 0} (r : Result T E) (A B : Type 0) → OnOk r A → OnErr r B → (A → Q) → (B → Q) → Q
@@ -43,11 +46,6 @@ err_of P (Err no_memory) q is h = subst (λ q. OnErr q P) (sym is) h
 pub freed_or_held : HoldsLaw → (old new : Seen) (k : ℕ) (r : Result (Unit {0}) DevFault) → Keeps old new → Does old (step.DropTemp k None) new r → HoldsFile old k None → OnErr r (IsHeld new k ⊎ IsFree new k)
 freed_or_held laws old new k r keeps does held = on_err r (λ h. elim h [ inl a ↦ inl (None, subst (Holds new k) (sym (none_is laws)) a) | inr b ↦ inr b ])
     (laws.free_refused old new k no_files r keeps does (subst (Holds old k) (none_is laws) held))
-
-pub refused : {T : Type 0} (old new : Seen) (r : Result T DevFault) → HasCause old.faults new.faults r → IfErr (store_answer r) (StoreRefuses old new)
-refused old new (Ok v) h = tt
-refused old new (Err Failed) h = h.failed refl
-refused old new (Err no_memory) h = tt
 
 -- after a step on the file of a held folder
 pub works_by : HoldsLaw → DidLaw → GrewLaw → (old new : Seen) (own : StoreStep) (k : ℕ) (b c : Option (List ℕ)) (r : Result (Unit {0}) DevFault) → Keeps old new → Does old own new r → HasCause old.faults new.faults r → IsIn k own → Asks old own
@@ -88,9 +86,3 @@ works_twice grew k a b c h w = record { held = w.held; grew = grew.both a b c h.
 -- no call
 pub works_none : GrewLaw → (k : ℕ) (a : Seen) → IsHeld a k → Works k a a
 works_none grew k a held = record { held = held; grew = grew.none a; later = omega arith }
-
--- a refusal of the store behind other calls
-pub refuses_from : (a b c : Seen) (e : PutFault) → a.faults ≤ b.faults → StoreRefuses b c e → StoreRefuses a c e
-refuses_from a b c store_fault l h = omega (arith, l, h)
-refuses_from a b c out_of l h = tt
-refuses_from a b c e l h = h

@@ -4,3 +4,4 @@ pub mod ReadsLemmas
 pub mod BeginsLemmas
 pub mod PutsLemmas
 pub mod MetLemmas
+pub mod PublishedLemmas

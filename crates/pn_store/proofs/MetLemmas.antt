@@ -1,9 +1,7 @@
 -- Lemmas on what a put met at its address, and on its refusals.
-use Rattle.std.proofs.Common.{◌≡◌, ◌≢◌, ◌≤◌, inl, inr, ℕ, List, refl, sym, ap, ◌∙◌, arith, subst, Some, None}
+use Rattle.std.proofs.Common.{◌≡◌, ◌≢◌, ◌≤◌, inl, inr, ℕ, List, refl, sym, ◌∙◌, arith, subst, Some, None}
 use Rattle.std.specs.Prelude.{Option, IfSome}
-use Rattle.sha2.specs.Sha512.{sha512}
 use Rattle.pn_text.specs.Path.{Path}
-use Rattle.pn_text.proofs.Results.{for_some, if_some}
 use Rattle.pn_fs.specs.Tree.{Tree, file}
 use Rattle.pn_fs.specs.Seen.{Seen as Source, Keeps}
 use Rattle.pn_storecore.specs.declared.step.Place.{Place}
@@ -18,7 +16,7 @@ use Rattle.pn_store.specs.declared.fault.PutFault.{PutFault}
 use Rattle.pn_store.specs.declared.fault.PutFault.TheVariants.{StoreFault, SourceFault, TooLarge, Clash, Memory}
 use Rattle.pn_store.specs.Held.{Works}
 use Rattle.pn_store.specs.Reads.{StoodThere}
-use Rattle.pn_store.specs.Faults.{Clashes, IsLong, FileRefused, PutRefused}
+use Rattle.pn_store.specs.Faults.{IsLong, FileRefused, PutRefused}
 use Rattle.pn_store.specs.Puts.{IsFound, IsMet, IsSource, absent, same, other, long}
 
 -- what was met behind other calls, and before them
@@ -55,19 +53,6 @@ refused_behind law p from mid gone a b c (Clash at) keeps grew later h = record 
   stood = stood_before law a b c Files at h.stored grew h.stood;
 }
 refused_behind law p from mid gone a b c Memory keeps grew later h = tt
-
--- other bytes of the digest that was asked for
-pub clashes : (from : Source) (p : Path) (at d own : List ℕ) (old new : Seen) → sha512 own ≡ at → IsSource from.tree p own → d ≡ at → IsFound from.tree p at old new (met.Other d) → Clashes from p d old new
-clashes from p at d own old new digest is one h = record {
-  stored = h.0;
-  own = own;
-  first = h.1;
-  second = digest ∙ sym one;
-  source = if_some (λ r. (r p ≡ Some (file own)) × (h.0 ≢ own)) from.tree (λ r told.
-      let f : r p ≡ Some (file own) = for_some (λ r. r p ≡ Some (file own)) from.tree is r told in
-      (f, λ e. for_some (λ r. r p ≢ Some (file h.0)) from.tree h.2 r told (f ∙ ap (λ b. Some (file b)) (sym e))));
-  stood = subst (λ x. StoodThere Files x h.0 old new) (sym one) h.3;
-}
 
 -- what a comparison answers is what was met, unless it is a clash
 pub met_of : (source : Option Tree) (p : Path) (at : List ℕ) (old new : Seen) (m : Met) → IsFound source p at old new m → ((d : List ℕ) → m ≡ met.Other d → d ≢ at) → IsMet source p at old new

@@ -5,6 +5,7 @@ use Rattle.pn_storecore.specs.Seen.{Seen}
 use Rattle.pn_storecore.specs.Grew.{Stood, Took, TookNone}
 use Rattle.pn_store.specs.declared.fault.ClaimFault.{ClaimFault}
 use Rattle.pn_store.specs.declared.fault.ClaimFault.TheVariants.{Fault, NumbersFull, Memory}
+use Rattle.pn_store.specs.declared.number.TheConstants.{NUMBERS}
 use Rattle.pn_store.specs.Held.{HoldsFile}
 
 -- A step between made the number's folder for this installer, which holds it with no files, and none made another's.
@@ -25,5 +26,5 @@ pub record AreTaken (bound : ℕ) (old new : Seen) : Type 0 where
 -- why no number was claimed
 abbrev pub ClaimRefused : Seen → Seen → ClaimFault → Type 0
 ClaimRefused old new Fault = Rose old.faults new.faults
-ClaimRefused old new NumbersFull = AreTaken 65536 old new
+ClaimRefused old new NumbersFull = AreTaken NUMBERS old new
 ClaimRefused old new Memory = Unit {0}

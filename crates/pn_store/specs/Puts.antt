@@ -7,8 +7,9 @@ use Rattle.pn_fs.specs.Tree.{Tree, file}
 use Rattle.pn_storecore.specs.declared.step.Place.TheVariants.{Files}
 use Rattle.pn_storecore.specs.Seen.{Seen}
 use Rattle.pn_storecore.specs.Held.{HasObject}
-use Rattle.pn_storecore.specs.Grew.{Was}
+use Rattle.pn_storecore.specs.Grew.{Grew, Was}
 use Rattle.pn_store.specs.Held.{HoldsFile}
+use Rattle.pn_store.specs.Published.{PublishedNone}
 use Rattle.pn_store.specs.Reads.{StoodThere}
 use Rattle.pn_store.specs.declared.compare.Met.{Met}
 use Rattle.pn_store.specs.declared.compare.Met.TheVariants as met
@@ -26,6 +27,13 @@ pub data IsMet (source : Option Tree) (p : Path) (at : List ℕ) (old new : Seen
   other : (stored : List ℕ) → sha512 stored ≢ at → StoodThere Files at stored old new → IsMet source p at old new
   long : (stored : List ℕ) → FILE_LIMIT < length stored → StoodThere Files at stored old new → IsMet source p at old new
 
+-- It was met before this installer moved a file to an address.
+pub record MetFirst (source : Option Tree) (p : Path) (at : List ℕ) (old new : Seen) : Type 0 where
+  pub mid : Seen
+  pub unpublished : PublishedNone old mid
+  pub later : Grew mid new
+  pub met : IsMet source p at old mid
+
 -- the same, by what the comparison answers
 abbrev pub IsFound : Option Tree → Path → List ℕ → Seen → Seen → Met → Type 0
 IsFound source p at old new met.Absent = Was Files at None old new
@@ -40,7 +48,7 @@ pub record IsPut (source : Option Tree) (p : Path) (old new : Seen) (put : Put) 
   pub size : put.length ≡ length bytes
   pub short : length bytes ≤ FILE_LIMIT
   pub from : IsSource source p bytes
-  pub met : IsMet source p put.digest old new
+  pub met : MetFirst source p put.digest old new
   pub was : Was Files put.digest (Some bytes) old new
   pub stands : HasObject new Files put.digest
 

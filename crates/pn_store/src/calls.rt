@@ -10,6 +10,7 @@ ghost use Rattle.pn_storecore.specs.Held.{Holds, HasShard, HasBytes, HasObject, 
 ghost use Rattle.pn_storecore.specs.Grew.{Grew, ReadTo};
 ghost use Rattle.pn_store.specs.Held.{HoldsFile, IsHeld, Works};
 ghost use Rattle.pn_store.specs.Faults.{StoreRefuses};
+ghost use Rattle.pn_store.specs.Published.{PublishedNone};
 
 use crate::fault::{PutFault, of_store};
 use pn_digest::Digest;
@@ -22,6 +23,7 @@ use pn_text::DevFault;
 pub fn drop_file<D: StoreDisk>(disk: &mut D, k: u32) -> Result<(), PutFault>
     requires { IsHeld (D.seen disk.old) k }
     ensures ok { OnOk result (HoldsFile (D.seen disk.new) k None) }
+    ensures unpublished { PublishedNone (D.seen disk.old) (D.seen disk.new) }
     ensures works { Works k (D.seen disk.old) (D.seen disk.new) }
     ensures fault { IfErr result (StoreRefuses (D.seen disk.old) (D.seen disk.new)) }
 {
@@ -36,6 +38,7 @@ pub fn drop_file<D: StoreDisk>(disk: &mut D, k: u32) -> Result<(), PutFault>
 pub fn create<D: StoreDisk>(disk: &mut D, k: u32) -> Result<(), PutFault>
     requires { HoldsFile (D.seen disk.old) k None }
     ensures ok { OnOk result (HoldsFile (D.seen disk.new) k (Some [])) }
+    ensures unpublished { PublishedNone (D.seen disk.old) (D.seen disk.new) }
     ensures works { Works k (D.seen disk.old) (D.seen disk.new) }
     ensures fault { IfErr result (StoreRefuses (D.seen disk.old) (D.seen disk.new)) }
 {
@@ -50,6 +53,7 @@ pub fn create<D: StoreDisk>(disk: &mut D, k: u32) -> Result<(), PutFault>
 pub fn start<D: StoreDisk>(disk: &mut D, k: u32) -> Result<(), PutFault>
     requires { IsHeld (D.seen disk.old) k }
     ensures ok { OnOk result (HoldsFile (D.seen disk.new) k (Some [])) }
+    ensures unpublished { OnOk result (PublishedNone (D.seen disk.old) (D.seen disk.new)) }
     ensures works { Works k (D.seen disk.old) (D.seen disk.new) }
     ensures fault { IfErr result (StoreRefuses (D.seen disk.old) (D.seen disk.new)) }
 {
@@ -62,6 +66,7 @@ pub fn start<D: StoreDisk>(disk: &mut D, k: u32) -> Result<(), PutFault>
 pub fn append<D: StoreDisk>(disk: &mut D, k: u32, more: &[u8]) -> Result<(), PutFault>
     requires { (bytes : List ℕ) × HoldsFile (D.seen disk.old) k (Some bytes) }
     ensures ok { (bytes : List ℕ) → HoldsFile (D.seen disk.old) k (Some bytes) → OnOk result (HoldsFile (D.seen disk.new) k (Some (bytes ++ more.now))) }
+    ensures unpublished { PublishedNone (D.seen disk.old) (D.seen disk.new) }
     ensures works { Works k (D.seen disk.old) (D.seen disk.new) }
     ensures fault { IfErr result (StoreRefuses (D.seen disk.old) (D.seen disk.new)) }
 {
@@ -131,6 +136,7 @@ pub fn read<D: StoreDisk>(
     ensures within { IfOk result (λ found. IfSome found (λ n. n ≤ length into.old)) }
     ensures read { IfOk result (λ found. IfSome (D.seen disk.old).journal (λ j. ReadTo place at.now from into.new found j (D.seen disk.new).journal)) }
     ensures left { (k : ℕ) (files : TempFiles) → Holds (D.seen disk.old) k files → Holds (D.seen disk.new) k files }
+    ensures unpublished { PublishedNone (D.seen disk.old) (D.seen disk.new) }
     ensures grew { Grew (D.seen disk.old) (D.seen disk.new) }
     ensures cause { HasCause (D.seen disk.old).faults (D.seen disk.new).faults result }
 {

@@ -10,7 +10,7 @@ ghost use Rattle.pn_store.specs.Faults.{StoreRefuses};
 
 use crate::calls::drop_file;
 use crate::fault::{ClaimFault, PutFault, ReadFault, of_store};
-use crate::number::Claim;
+use crate::number::{Claim, NUMBERS};
 use pn_storecore::{StoreDisk, asks_law, claims_law, did_law, grew_law, holds_law};
 use pn_text::DevFault;
 
@@ -24,7 +24,7 @@ pub fn claim<D: StoreDisk>(disk: &mut D) -> Result<Claim, ClaimFault>
 {
     grew_law();
     claims_law();
-    'numbers: for k in 0..65536u32 {
+    'numbers: for k in 0..NUMBERS {
         let free = take(disk, k)?;
         if free {
             return Ok(Claim::of(k));

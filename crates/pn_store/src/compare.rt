@@ -11,6 +11,7 @@ ghost use Rattle.pn_storecore.specs.Grew.{Grew};
 ghost use Rattle.pn_store.specs.Faults.{FileRefused, PutRefused, SourceRefuses};
 ghost use Rattle.pn_store.specs.Puts.{IsFound, IsMet, HasSource};
 ghost use Rattle.pn_store.specs.Begins.{BeginsAt, IsEnd};
+ghost use Rattle.pn_store.specs.Published.{PublishedNone};
 
 use crate::calls::read;
 use crate::fault::PutFault;
@@ -42,6 +43,7 @@ pub fn meet<D: StoreDisk, R: ReadFs>(
     requires file { ForSome (R.seen from.old).tree (λ r. IsFile r path.now) }
     requires room { (0 < length ours.old) × (0 < length theirs.old) }
     ensures met { OnOk result (IsMet (R.seen from.old).tree path.now at.now (D.seen disk.old) (D.seen disk.new)) }
+    ensures unpublished { OnOk result (PublishedNone (D.seen disk.old) (D.seen disk.new)) }
     ensures left { (k : ℕ) (files : TempFiles) → Holds (D.seen disk.old) k files → Holds (D.seen disk.new) k files }
     ensures grew { Grew (D.seen disk.old) (D.seen disk.new) }
     ensures later { (D.seen disk.old).faults ≤ (D.seen disk.new).faults }
@@ -77,6 +79,7 @@ fn compare<D: StoreDisk, R: ReadFs>(
     requires file { ForSome (R.seen from.old).tree (λ r. IsFile r path.now) }
     requires room { (0 < length ours.old) × (0 < length theirs.old) }
     ensures found { IfOk result (IsFound (R.seen from.old).tree path.now at.now (D.seen disk.old) (D.seen disk.new)) }
+    ensures unpublished { OnOk result (PublishedNone (D.seen disk.old) (D.seen disk.new)) }
     ensures left { (k : ℕ) (files : TempFiles) → Holds (D.seen disk.old) k files → Holds (D.seen disk.new) k files }
     ensures grew { Grew (D.seen disk.old) (D.seen disk.new) }
     ensures later { (D.seen disk.old).faults ≤ (D.seen disk.new).faults }

@@ -12,6 +12,7 @@ ghost use Rattle.pn_storecore.specs.Seen.{Seen as Stored};
 ghost use Rattle.pn_store.specs.Held.{HoldsFile, IsHeld, Works};
 ghost use Rattle.pn_store.specs.Faults.{FileRefused, PutRefused, StoreRefuses};
 ghost use Rattle.pn_store.specs.Puts.{IsPut, IsFilled, IsShortFile};
+ghost use Rattle.pn_store.specs.Published.{PublishedNone};
 
 use crate::calls::{append, first_of, publish_file, shard, start};
 use crate::compare::{meet, source_piece};
@@ -98,6 +99,7 @@ fn fill<D: StoreDisk, R: ReadFs>(
     requires file { ForSome (R.seen from.old).tree (λ r. IsShortFile r path.now) }
     requires room { 0 < length buffer.old }
     ensures filled { IfOk result (IsFilled (R.seen from.old).tree path.now k (D.seen disk.new)) }
+    ensures unpublished { OnOk result (PublishedNone (D.seen disk.old) (D.seen disk.new)) }
     ensures works { Works k (D.seen disk.old) (D.seen disk.new) }
     ensures source { Keeps (R.seen from.old) (R.seen from.new) }
     ensures fault { IfErr result (FileRefused path.now (R.seen from.old) (R.seen from.new) (D.seen disk.old) (D.seen disk.new)) }
@@ -141,6 +143,7 @@ fn take_in<D: StoreDisk>(
     requires within { count ≤ length buffer.now }
     ensures ok { (bytes : List ℕ) → HoldsFile (D.seen disk.old) k (Some bytes) → OnOk result (HoldsFile (D.seen disk.new) k (Some (bytes ++ take count buffer.now))) }
     ensures hashed { (bytes : List ℕ) → Hashes hasher.old bytes → Hashes hasher.new (bytes ++ take count buffer.now) }
+    ensures unpublished { PublishedNone (D.seen disk.old) (D.seen disk.new) }
     ensures works { Works k (D.seen disk.old) (D.seen disk.new) }
     ensures fault { IfErr result (StoreRefuses (D.seen disk.old) (D.seen disk.new)) }
 {

@@ -25,7 +25,7 @@ pub use fault::{ClaimFault, PutFault, ReadFault};
 pub use files::{Put, put_file};
 pub use laws::wrong_law;
 pub use listings::put_listing;
-pub use number::Claim;
+pub use number::{Claim, NUMBERS};
 pub use reads::{has, listing, read_piece};
 
 #[cfg(test)]

@@ -3,6 +3,9 @@ ghost use Rattle.std.specs.Prelude.{◌≡◌};
 
 use std::marker::Model;
 
+/// The store has so many numbers.
+pub const NUMBERS: u32 = 65_536;
+
 /// A claimed number. Contracts see the number.
 #[derive(Drop)]
 pub struct Claim {

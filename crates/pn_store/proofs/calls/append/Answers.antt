@@ -1,6 +1,8 @@
 use Rattle.std.proofs.Common.{◌++◌, Some}
 use Rattle.pn_store.specs.Held.{HoldsFile}
 use Rattle.pn_store.proofs.HeldLemmas.{works_append, ok_of}
+use Rattle.pn_storecore.specs.declared.step.StoreStep.TheVariants.{Append}
+use Rattle.pn_store.proofs.PublishedLemmas.{call_none, append_none}
 use Rattle.pn_store.proofs.calls.append.Goals as goal
 
 pub returns-clause-ok : goal.returns-clause-ok
@@ -18,3 +20,12 @@ returns-clause-works g c =
     let seen = g.D.StoreDisk.seen in
     let d = c.append in
     (works_append c.holds_law.ensures c.did_law.ensures c.grew_law.ensures c.asks_law.ensures (seen c.args.disk.now) (seen d.new.self) c.args.k c.args.more.now c.requires.0 d.result d.ensures.kept d.ensures.step d.ensures.cause c.requires.1).1
+
+pub returns-clause-unpublished : goal.returns-clause-unpublished
+returns-clause-unpublished g c =
+    let seen = g.D.StoreDisk.seen in
+    let d = c.append in
+    let one = seen c.args.disk.now in
+    let two = seen d.new.self in
+    let more = c.args.more.now in
+    call_none one two (Append c.args.k 0 more) (c.did_law.ensures.append one two c.args.k 0 more d.result d.ensures.kept d.ensures.step) (append_none c.args.k 0 more)

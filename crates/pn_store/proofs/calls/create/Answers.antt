@@ -3,6 +3,7 @@ use Rattle.pn_storecore.specs.declared.step.StoreStep.TheVariants.{Create}
 use Rattle.pn_storecore.specs.Held.{files_with, no_files}
 use Rattle.pn_store.specs.Held.{HoldsFile}
 use Rattle.pn_store.proofs.HeldLemmas.{works_by, ok_of}
+use Rattle.pn_store.proofs.PublishedLemmas.{call_none, whole_none}
 use Rattle.pn_store.proofs.calls.create.Goals as goal
 
 pub returns-clause-ok : goal.returns-clause-ok
@@ -22,3 +23,12 @@ returns-clause-works g c =
     let d = c.create in
     let one = seen c.args.disk.now in
     (works_by c.holds_law.ensures c.did_law.ensures c.grew_law.ensures one (seen d.new.self) (Create k 0) k None (Some []) d.result d.ensures.kept d.ensures.step d.ensures.cause refl (c.asks_law.ensures.create one k 0 (files_with no_files 0 None) c.requires refl) (c.holds_law.ensures.again no_files 0 None (Some [])) c.requires).1
+
+pub returns-clause-unpublished : goal.returns-clause-unpublished
+returns-clause-unpublished g c =
+    let seen = g.D.StoreDisk.seen in
+    let d = c.create in
+    let one = seen c.args.disk.now in
+    let two = seen d.new.self in
+    let own = Create c.args.k 0 in
+    call_none one two own (c.did_law.ensures.does one two own d.result d.ensures.kept d.ensures.step) (λ made is. whole_none own made tt is)

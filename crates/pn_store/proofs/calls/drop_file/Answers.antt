@@ -3,6 +3,7 @@ use Rattle.pn_storecore.specs.declared.step.StoreStep.TheVariants.{DropTemp}
 use Rattle.pn_storecore.specs.Held.{files_with, no_files}
 use Rattle.pn_store.specs.Held.{HoldsFile}
 use Rattle.pn_store.proofs.HeldLemmas.{works_by, ok_of}
+use Rattle.pn_store.proofs.PublishedLemmas.{call_none, whole_none}
 use Rattle.pn_store.proofs.calls.drop_file.Goals as goal
 
 pub returns-clause-ok : goal.returns-clause-ok
@@ -24,3 +25,12 @@ returns-clause-works g c =
     let b = c.requires.0 in
     let one = seen c.args.disk.now in
     (works_by c.holds_law.ensures c.did_law.ensures c.grew_law.ensures one (seen d.new.self) (DropTemp k (Some 0)) k b None d.result d.ensures.kept d.ensures.step d.ensures.cause refl (c.asks_law.ensures.drop_file one k 0 (files_with no_files 0 b) c.requires.1) (c.holds_law.ensures.again no_files 0 b None) c.requires.1).1
+
+pub returns-clause-unpublished : goal.returns-clause-unpublished
+returns-clause-unpublished g c =
+    let seen = g.D.StoreDisk.seen in
+    let d = c.drop_temp in
+    let one = seen c.args.disk.now in
+    let two = seen d.new.self in
+    let own = DropTemp c.args.k (Some 0) in
+    call_none one two own (c.did_law.ensures.does one two own d.result d.ensures.kept d.ensures.step) (λ made is. whole_none own made tt is)

@@ -5,6 +5,7 @@ use Rattle.pn_storecore.specs.Grew.{ReadTo}
 use Rattle.pn_fs.proofs.SeenLemmas.{keeps_on, keeps_same}
 use Rattle.pn_store.proofs.ReadsLemmas.{start, reads_on, reads_end, too_long, fewer}
 use Rattle.pn_store.proofs.BeginsLemmas.{begins_none, begins_more, found_end}
+use Rattle.pn_store.proofs.PublishedLemmas.{published_none, published_both}
 use Rattle.pn_store.proofs.compare.compare.Goals as goal
 
 pub pieces-init : goal.pieces-init
@@ -17,6 +18,7 @@ pieces-init g c =
       within = omega arith;
       kept = keeps_same source;
       left = λ k files held. held;
+      unpublished = published_none a;
       grew = c.grew_law.ensures.none a;
       later = omega arith;
     }
@@ -103,6 +105,22 @@ pieces-preserved g c =
       within = omega (arith, c.if-place-count-gt-FILE_LIMIT.false, step.used.1);
       kept = keeps_on (g.R.ReadFs.seen c.args.from.now) (g.R.ReadFs.seen c.pieces.from) (g.R.ReadFs.seen c.agree.new.from) inv.kept c.agree.ensures.kept;
       left = λ k files held. c.read.ensures.left k files (inv.left k files held);
+      unpublished = published_both old mid new inv.unpublished c.read.ensures.unpublished;
       grew = c.grew_law.ensures.both old mid new inv.grew c.read.ensures.grew;
       later = omega (arith, inv.later, c.read.ensures.cause.later);
     }
+
+pub returns-in-Ok-None-clause-unpublished : goal.returns-in-Ok-None-clause-unpublished
+returns-in-Ok-None-clause-unpublished g c =
+    let store = g.D.StoreDisk.seen in
+    published_both (store c.args.disk.now) (store c.pieces.disk) (store c.read.new.disk) c.pieces.invariant.unpublished c.read.ensures.unpublished
+
+pub returns-then-count-eq0-clause-unpublished : goal.returns-then-count-eq0-clause-unpublished
+returns-then-count-eq0-clause-unpublished g c =
+    let store = g.D.StoreDisk.seen in
+    published_both (store c.args.disk.now) (store c.pieces.disk) (store c.read.new.disk) c.pieces.invariant.unpublished c.read.ensures.unpublished
+
+pub returns-then-place-count-gt-FILE_LIMIT-clause-unpublished : goal.returns-then-place-count-gt-FILE_LIMIT-clause-unpublished
+returns-then-place-count-gt-FILE_LIMIT-clause-unpublished g c =
+    let store = g.D.StoreDisk.seen in
+    published_both (store c.args.disk.now) (store c.pieces.disk) (store c.read.new.disk) c.pieces.invariant.unpublished c.read.ensures.unpublished

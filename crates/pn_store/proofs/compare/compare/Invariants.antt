@@ -4,6 +4,7 @@ use Rattle.pn_fs.specs.Seen.{Keeps}
 use Rattle.pn_storecore.specs.declared.step.Place.TheVariants.{Files}
 use Rattle.pn_storecore.specs.Held.{Holds, TempFiles}
 use Rattle.pn_storecore.specs.Grew.{Grew}
+use Rattle.pn_store.specs.Published.{PublishedNone}
 use Rattle.pn_store.specs.Begins.{BeginsAt}
 use Rattle.pn_store.proofs.ReadsLemmas.{IsReading}
 use Rattle.pn_store.proofs.compare.compare.Given as goal
@@ -19,6 +20,7 @@ invariant-pieces g l =
       within : l.place ≤ 268435456;
       kept : Keeps (source l.fn.from) (source l.from);
       left : (k : ℕ) (files : TempFiles) → Holds (store l.fn.disk) k files → Holds (store l.disk) k files;
+      unpublished : PublishedNone (store l.fn.disk) (store l.disk);
       grew : Grew (store l.fn.disk) (store l.disk);
       later : (store l.fn.disk).faults ≤ (store l.disk).faults;
     }

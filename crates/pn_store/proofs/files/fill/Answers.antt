@@ -2,6 +2,7 @@ use Rattle.std.proofs.Common.{◌≤◌, [], length, refl, arith, rules, Some}
 use Rattle.pn_store.proofs.HeldLemmas.{works_none, works_twice}
 use Rattle.pn_store.proofs.PutsLemmas.{starts, piece_of, goes_on, ends, not_large, short_is_file}
 use Rattle.pn_store.specs.Faults.{IsLong}
+use Rattle.pn_store.proofs.PublishedLemmas.{published_none, published_both}
 use Rattle.pn_store.proofs.files.fill.Goals as goal
 
 pub pieces-init : goal.pieces-init
@@ -10,6 +11,7 @@ pieces-init g c =
       filling = starts _ _ _ _ _ c.requires.held c.new-hasher.ensures c.requires.file;
       within = omega arith;
       kept = record { tree = refl; touched = refl; later = omega arith };
+      unpublished = published_none (g.D.StoreDisk.seen c.args.disk.now);
       works = works_none c.grew_law.ensures c.args.k (g.D.StoreDisk.seen c.args.disk.now) (Some [], c.requires.held);
     }
 
@@ -36,5 +38,6 @@ pieces-preserved g c =
       filling = goes_on _ _ _ _ _ _ c.pieces.hasher _ _ _ h (piece_of _ _ _ _ _ _ inv.kept.tree c.in_ok-count.ensures.piece) within (c.in_ok-take_in.ensures.ok h.bytes h.holds) (c.in_ok-take_in.ensures.hashed h.bytes h.hashed);
       within = c.if-next-gt-FILE_LIMIT.false;
       kept = search rules;
+      unpublished = published_both (seen c.args.disk.now) (seen c.pieces.disk) (seen c.take_in.new.disk) inv.unpublished c.in_ok-take_in.ensures.unpublished;
       works = works_twice c.grew_law.ensures c.args.k (seen c.args.disk.now) (seen c.pieces.disk) (seen c.take_in.new.disk) inv.works c.in_ok-take_in.ensures.works;
     }

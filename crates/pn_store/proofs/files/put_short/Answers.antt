@@ -4,6 +4,7 @@ use Rattle.pn_storecore.specs.declared.step.Place.TheVariants.{Files}
 use Rattle.pn_storecore.specs.Held.{files_with, no_files}
 use Rattle.pn_store.proofs.HeldLemmas.{works_twice}
 use Rattle.pn_store.proofs.MetLemmas.{met_between, refused_behind, works_left}
+use Rattle.pn_store.proofs.PublishedLemmas.{published_both}
 use Rattle.pn_store.proofs.files.put_short.Goals as goal
 
 pub returns-in_err-meet-clause-works : goal.returns-in_err-meet-clause-works
@@ -55,7 +56,12 @@ returns-clause-put g c =
       size = filled.size;
       short = filled.short;
       from = filled.from;
-      met = met_between c.was_law.ensures (source c.args.from.now).tree (source c.fill.new.from).tree c.args.path.now put.digest old two three new c.fill.ensures.source.tree first.grew c.move_to.ensures.works.grew c.in_ok-meet.ensures.met;
+      met = record {
+        mid = three;
+        unpublished = published_both old two three (published_both old one two c.in_ok-start.ensures.unpublished c.in_ok-put.ensures.unpublished) c.in_ok-meet.ensures.unpublished;
+        later = c.move_to.ensures.works.grew;
+        met = met_between c.was_law.ensures (source c.args.from.now).tree (source c.fill.new.from).tree c.args.path.now put.digest old two three three c.fill.ensures.source.tree first.grew (laws.none three) c.in_ok-meet.ensures.met;
+      };
       was = c.was_law.ensures.now old new Files put.digest filled.bytes works.grew stands;
       stands = c.stands_law.ensures.object new Files put.digest filled.bytes stands;
     }

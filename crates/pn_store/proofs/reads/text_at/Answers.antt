@@ -1,9 +1,9 @@
-use Rattle.std.proofs.Common.{◌≡◌, ◌≤◌, ◌+◌, ◌++◌, ℕ, length, take, vec_len, refl, sym, ap, ◌∙◌, subst, arith, Some, [], length-append}
+use Rattle.std.proofs.Common.{◌≤◌, ◌++◌, length, take, vec_len, sym, ap, subst, arith, Some, length-append}
 use Rattle.std.proofs.lemmas.List.{length-take-le}
 use Rattle.std.specs.Prelude.{IfSome}
 use Rattle.pn_storecore.specs.declared.step.Place.TheVariants.{Listings}
 use Rattle.pn_storecore.specs.Grew.{ReadTo}
-use Rattle.pn_store.proofs.ReadsLemmas.{Reading, start, reads_on, reads_end}
+use Rattle.pn_store.proofs.ReadsLemmas.{Reading, reads_on, reads_end}
 use Rattle.pn_store.proofs.reads.text_at.Goals as goal
 
 pub returns-in-Ok-None-clause-left : goal.returns-in-Ok-None-clause-left
