@@ -3,3 +3,4 @@ pub mod Kept
 pub mod NodeLemmas
 pub mod Listings
 pub mod SeenLemmas
+pub mod PieceLemmas

@@ -1,5 +1,5 @@
 -- The path of a name's folder is short.
-use Rattle.std.proofs.Common.{◌≡◌, ◌≤◌, ℕ, List, [], ◌∷◌, ◌++◌, length, refl, ap, ◌∙◌, subst, sym, arith, true, Result, Ok, Err, OnOk}
+use Rattle.std.proofs.Common.{◌≡◌, ◌≤◌, ℕ, List, [], ◌∷◌, ◌++◌, length, refl, ap, ◌∙◌, subst, sym, arith, true}
 use Rattle.std.proofs.lemmas.List.{length-append, append-nil}
 use Rattle.pn_text.specs.declared.limits.TheConstants.{PATH_LIMIT}
 use Rattle.pn_text.specs.Name.{is_name, name_path}
@@ -24,7 +24,3 @@ text_short (x ∷ p) h = omega (arith, h)
 pub folder_short : (n : List ℕ) (tail root : Path) → is_name n ≡ true → tail ≡ name_path n → root ≡ [] → length (path_text (tail ++ root)) ≤ PATH_LIMIT
 folder_short n tail root h is none =
     subst (λ (p : Path). length (path_text p) ≤ PATH_LIMIT) (sym (ap (λ (r : Path). tail ++ r) none ∙ append-nil tail ∙ is)) (text_short (name_path n) (below_length n h))
-
-pub any_ok : {T E P : Type 0} (r : Result T E) → P → OnOk r P
-any_ok (Ok v) h = h
-any_ok (Err e) h = tt

@@ -15,10 +15,6 @@ use Rattle.pn_store.specs.declared.fault.PutFault.{PutFault}
 use Rattle.pn_store.specs.Held.{HoldsFile, IsHeld, Works}
 use Rattle.pn_store.specs.Faults.{store_answer}
 
-pub any_ok : {T E P : Type 0} (r : Result T E) → P → OnOk r P
-any_ok (Ok v) h = h
-any_ok (Err e) h = tt
-
 -- what holds after either answer
 pub either : {T E Q : Type 0} (r : Result T E) (A B : Type 0) → OnOk r A → OnErr r B → (A → Q) → (B → Q) → Q
 either (Ok v) A B a b f g = f a

@@ -1,28 +1,21 @@
 -- Lemmas on a file that is put in pieces.
-use Rattle.std.proofs.Common.{◌≡◌, ℕ, ◌+◌, ◌<◌, ◌≤◌, List, [], ◌++◌, length, take, drop, refl, sym, ap, ◌∙◌, arith, Some, length-append, length-take}
+use Rattle.std.proofs.Common.{◌≡◌, ℕ, ◌+◌, ◌≤◌, List, [], ◌++◌, length, take, refl, sym, ap, ◌∙◌, arith, Some, length-append, length-take}
 use Rattle.std.specs.Prelude.{Option, IfSome}
 use Rattle.std.specs.Option.{ForSome}
-use Rattle.std.proofs.Math.Seq.{take-add}
 use Rattle.std.proofs.lemmas.List.{take_all}
 use Rattle.sha2.specs.Sha512.{sha512}
 use Rattle.pn_text.specs.Path.{Path}
 use Rattle.pn_fs.specs.Tree.{Entry, file, Tree, IsFile}
 use Rattle.pn_fs.specs.Pieces.{IsPiece}
+use Rattle.pn_fs.proofs.PieceLemmas.{IsFront, grown_front}
 use Rattle.pn_digest.specs.declared.hasher.Hasher512.{Hasher512}
 use Rattle.pn_digest.specs.Hashing.{Holds as Hashes}
 use Rattle.pn_storecore.specs.Seen.{Seen}
 use Rattle.pn_text.specs.declared.limits.TheConstants.{FILE_LIMIT}
-use Rattle.pn_text.proofs.Results.{for_some, if_some}
+use Rattle.pn_text.proofs.Results.{if_some}
 use Rattle.pn_store.specs.declared.files.Put.{Put}
 use Rattle.pn_store.specs.Held.{HoldsFile}
 use Rattle.pn_store.specs.Puts.{IsFilled, IsShortFile}
-
--- the first bytes of the file that stands there
-pub record IsFront (e : Option Entry) (bytes : List ℕ) (at : ℕ) : Type 0 where
-  pub whole : List ℕ
-  pub is : e ≡ Some (file whole)
-  pub front : bytes ≡ take at whole
-  pub within : at ≤ length whole
 
 -- so many bytes are in the held file and in the hasher
 pub record IsFilling (source : Option Tree) (p : Path) (k at : ℕ) (hasher : Hasher512) (s : Seen) : Type 0 where
@@ -40,20 +33,6 @@ starts source p k hasher s holds hashed stands = record {
   holds = holds;
   hashed = hashed;
 }
-
-grown_front : (e : Option Entry) (bytes into : List ℕ) (at n : ℕ) → IsFront e bytes at → IsPiece e at into n → IsFront e (bytes ++ take n into) (at + n)
-grown_front e bytes into at n f p =
-    let same : p.bytes ≡ f.whole = cc (f.is, p.is) in
-    record {
-      whole = f.whole;
-      is = f.is;
-      front = ap (λ x. bytes ++ x) (p.came ∙ ap (λ b. take n (drop at b)) same) ∙ ap (λ x. x ++ take n (drop at f.whole)) f.front ∙ sym (take-add at n f.whole);
-      within = omega (arith, p.inside (omega (arith, f.within, ap length same)), ap length same);
-    }
-
--- a piece of the source, as the call tells it after others that only read
-pub piece_of : (source mid : Option Tree) (p : Path) (at n : ℕ) (into : List ℕ) → mid ≡ source → IfSome mid (λ r. IsPiece (r p) at into n) → ForSome source (λ r. IsPiece (r p) at into n)
-piece_of source mid p at n into same h r told = for_some (λ r. IsPiece (r p) at into n) mid h r (same ∙ told)
 
 grown_size : (at n : ℕ) (bytes into : List ℕ) → at ≡ length bytes → n ≤ length into → at + n ≡ length (bytes ++ take n into)
 grown_size at n bytes into size within = omega (arith, size, within, length-append bytes (take n into), length-take n into)

@@ -11,6 +11,10 @@ pub if_err : {T E : Type 0} {P Q : E → Type 0} (r : Result T E) → ((e : E) �
 if_err (Ok v) f h = tt
 if_err (Err e) f h = f e h
 
+pub any_ok : {T E P : Type 0} (r : Result T E) → P → OnOk r P
+any_ok (Ok v) h = h
+any_ok (Err e) h = tt
+
 pub on_ok : {T E P Q : Type 0} (r : Result T E) → (P → Q) → OnOk r P → OnOk r Q
 on_ok (Ok v) f h = f h
 on_ok (Err e) f h = tt

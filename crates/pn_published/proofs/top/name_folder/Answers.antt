@@ -1,6 +1,7 @@
 use Rattle.std.proofs.Common.{◌≡◌, subst, true}
 use Rattle.pn_text.specs.Name.{is_name}
-use Rattle.pn_published.proofs.NameFolders.{tags_entry, folder_short, any_ok}
+use Rattle.pn_published.proofs.NameFolders.{tags_entry, folder_short}
+use Rattle.pn_text.proofs.Results.{any_ok}
 use Rattle.pn_published.proofs.top.name_folder.Goals as goal
 
 pub join-requires : goal.join-requires

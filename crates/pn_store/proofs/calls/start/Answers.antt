@@ -1,4 +1,4 @@
-use Rattle.pn_store.proofs.HeldLemmas.{any_ok}
+use Rattle.pn_text.proofs.Results.{any_ok}
 use Rattle.pn_store.proofs.PublishedLemmas.{published_both}
 use Rattle.pn_store.proofs.calls.start.Goals as goal
 

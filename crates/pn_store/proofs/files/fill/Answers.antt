@@ -1,6 +1,7 @@
 use Rattle.std.proofs.Common.{◌≤◌, [], length, refl, arith, rules, Some}
 use Rattle.pn_store.proofs.HeldLemmas.{works_none, works_twice}
-use Rattle.pn_store.proofs.PutsLemmas.{starts, piece_of, goes_on, ends, not_large, short_is_file}
+use Rattle.pn_fs.proofs.PieceLemmas.{piece_of}
+use Rattle.pn_store.proofs.PutsLemmas.{starts, goes_on, ends, not_large, short_is_file}
 use Rattle.pn_store.specs.Faults.{IsLong}
 use Rattle.pn_store.proofs.PublishedLemmas.{published_none, published_both}
 use Rattle.pn_store.proofs.files.fill.Goals as goal
