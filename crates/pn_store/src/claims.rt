@@ -1,8 +1,9 @@
 // A number is claimed, and given back.
-ghost use Rattle.std.specs.Prelude.{◌≡◌, ◌≤◌, ◌≢◌, ◌⊎◌, ℕ, OnOk, OnErr, IfOk, IfErr};
+ghost use Rattle.std.specs.Prelude.{◌≡◌, ◌≤◌, ◌<◌, ◌≢◌, ◌⊎◌, ℕ, OnOk, OnErr, IfOk, IfErr};
 ghost use Rattle.std.specs.Bool.{OnTrue, OnFalse};
 ghost use Rattle.pn_storecore.specs.Held.{IsFree};
 ghost use Rattle.pn_storecore.specs.Grew.{Grew, Stood, TookNone};
+ghost use Rattle.pn_store.specs.declared.number.TheConstants.{NUMBERS};
 ghost use Rattle.pn_store.specs.Claims.{IsClaimed, IsTried, ClaimRefused};
 ghost use Rattle.pn_store.specs.Held.{HoldsFile, IsHeld};
 ghost use Rattle.pn_store.specs.Reads.{ReadRefused};
@@ -14,9 +15,11 @@ use crate::number::{Claim, NUMBERS};
 use pn_storecore::{StoreDisk, asks_law, claims_law, did_law, grew_law, holds_law};
 use pn_text::DevFault;
 
-/// Claims the first number that is free, of 65,536. A refusal leaves at most one number taken.
+/// Claims the first number that is free, of 65,536. A refusal leaves at most one number taken: `Fault` for a call that
+/// failed, `NumbersFull` where each was found taken, `Memory`.
 pub fn claim<D: StoreDisk>(disk: &mut D) -> Result<Claim, ClaimFault>
     ensures claimed { IfOk result (λ k. IsClaimed k (D.seen disk.old) (D.seen disk.new)) }
+    ensures first { IfOk result (λ k. (k < NUMBERS) × ((j : ℕ) → j < k → Stood j (D.seen disk.old) (D.seen disk.new))) }
     ensures left { OnErr result (IsTried (D.seen disk.old) (D.seen disk.new)) }
     ensures grew { Grew (D.seen disk.old) (D.seen disk.new) }
     ensures later { (D.seen disk.old).faults ≤ (D.seen disk.new).faults }

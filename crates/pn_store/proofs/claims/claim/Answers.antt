@@ -1,4 +1,4 @@
-use Rattle.std.proofs.Common.{ℕ, arith, subst, sym}
+use Rattle.std.proofs.Common.{ℕ, ◌<◌, arith, subst, sym}
 use Rattle.std.specs.Bool.{OnFalse, OnTrue}
 use Rattle.pn_storecore.specs.Grew.{Stood, TookNone}
 use Rattle.pn_text.proofs.Results.{any_err}
@@ -39,3 +39,13 @@ returns-then-free-clause-claimed g c =
     let k = c.numbers.k in
     subst (λ n. IsClaimed n a d) (sym c.of.ensures)
     (claimed_behind c.claims_law.ensures k a b d c.numbers.invariant.grew c.numbers.invariant.taken.others (subst (λ f. OnTrue f (IsClaimed k b d)) c.if-free.true c.in_ok-free.ensures.claimed))
+
+pub returns-then-free-clause-first : goal.returns-then-free-clause-first
+returns-then-free-clause-first g c =
+    let seen = g.D.StoreDisk.seen in
+    let a = seen c.args.disk.now in
+    let d = seen c.take.new.disk in
+    let k = c.numbers.k in (
+      omega (arith, c.numbers-test.true, c.of.ensures),
+      λ j below. c.claims_law.ensures.stood_behind a (seen c.numbers.disk) d j (c.numbers.invariant.taken.stood j (subst (λ n. j < n) c.of.ensures below)) c.take.ensures.grew,
+    )
