@@ -3,25 +3,20 @@ use Rattle.std.proofs.Common.{◌≡◌, ◌≢◌, ◌≤◌, Option, Some, Non
 use Rattle.std.specs.Prelude.{IfSome, IfErr, OnOk}
 use Rattle.pn_text.specs.declared.limits.TheConstants.{PATH_LIMIT}
 use Rattle.pn_text.specs.Path.{Path, path_text}
-use Rattle.pn_fs.specs.Tree.{Entry, folder, file, link, Tree}
+use Rattle.pn_fs.specs.Tree.{Tree}
 use Rattle.pn_fs.specs.Calls.{kind_of}
 use Rattle.pn_fs.specs.declared.kind.Kind.{Kind}
 use Rattle.pn_fs.specs.declared.kind.Kind.TheVariants.{Absent}
+use Rattle.pn_fs.proofs.Puts.{is_absent}
 use Rattle.pn_cmd.specs.declared.status.Status.{Status}
 use Rattle.pn_cmd.specs.declared.status.Status.TheVariants.{Memory, NotYet}
 use Rattle.pn_cmd.specs.World.{World}
 use Rattle.pn_cmd.specs.Points.{Refuses}
 use Rattle.pn_cmd.specs.Standing.{NothingStands, Stands, IsStood}
 
-none_by : (e : Option Entry) → kind_of e ≡ Absent → e ≡ None
-none_by None h = refl
-none_by (Some folder) h = cc h
-none_by (Some (file bytes)) h = cc h
-none_by (Some (link text)) h = cc h
-
 absent : (shown : Option Tree) (p : Path) (k : Kind) → k ≡ Absent → IfSome shown (λ t. k ≡ kind_of (t p)) → IfSome shown (λ t. t p ≡ None)
 absent None p k is h = tt
-absent (Some t) p k is h = none_by (t p) (sym h ∙ is)
+absent (Some t) p k is h = is_absent (t p) (sym h ∙ is)
 
 stands : (shown : Option Tree) (p : Path) (k : Kind) → k ≢ Absent → IfSome shown (λ t. k ≡ kind_of (t p)) → IfSome shown (λ t. t p ≢ None)
 stands None p k other h = tt
