@@ -1,9 +1,12 @@
-pub mod Steps
-pub mod Once
-pub mod Taking
-pub mod Going
-pub mod Sequences
-pub mod Least
-pub mod Sorting
-pub mod Reasons
-pub mod Settled
+pub mod ShownLemmas
+pub mod SettledLemmas
+pub mod WordsLemmas
+mod LeadsLemmas
+mod StartLemmas
+mod StopLemmas
+mod SoundLemmas
+mod ManifestLemmas
+mod VersionLemmas
+mod FitLemmas
+mod CachedLemmas
+mod SeekLemmas

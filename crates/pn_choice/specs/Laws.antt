@@ -1,26 +1,19 @@
--- The answer is settled by the registry.
-use Rattle.std.specs.Prelude.{◌≡◌, List, Some}
+-- A tree that is told settles the plain graph of what projects ask for.
+use Rattle.std.specs.Prelude.{◌≡◌, Some}
+use Rattle.pn_text.specs.declared.index.ProjIx.{ProjIx}
 use Rattle.pn_fs.specs.Tree.{Tree}
-use Rattle.pn_manifest.specs.Pairs.{Pair}
-use Rattle.pn_choice.specs.Edges.{target}
-use Rattle.pn_choice.specs.Reaches.{Reaches}
-use Rattle.pn_choice.specs.Refusals.{IsStopped}
-use Rattle.pn_choice.specs.Walked.{IsReached}
-use Rattle.pn_choice.specs.declared.package.Package.{Package}
-use Rattle.pn_choice.specs.declared.fault.ReachFault.{ReachFault}
+use Rattle.pn_graph.specs.declared.plain.Plain.{Plain}
+use Rattle.pn_walk.specs.Graphs.{IsGraph}
+use Rattle.pn_plain.specs.Plains.{Inputs}
+use Rattle.pn_choice.specs.Graphs.{IsGraphOf}
+use Rattle.pn_choice.specs.Refusals.{Unplain}
+use Rattle.pn_choice.specs.Shows.{LeadsIn, IsNodeOf}
+use Rattle.pn_choice.specs.declared.fault.ChoiceFault.{ChoiceFault}
 
--- Where the packages are reached, no edge is refused.
-abbrev pub PassedLaw : Type 0
-PassedLaw = (t : Tree) (own : List Pair) (met : List Package) (fault : ReachFault) → IsReached (Some t) own met → IsStopped own (Some t) fault → ⊥
-
--- The packages that are reached are the same ones, in the same order.
-abbrev pub SameLaw : Type 0
-SameLaw = (t : Tree) (own : List Pair) (met others : List Package) → IsReached (Some t) own met → IsReached (Some t) own others → met ≡ others
-
--- No two causes stand.
-abbrev pub CauseLaw : Type 0
-CauseLaw = (t : Tree) (own : List Pair) (fault other : ReachFault) → IsStopped own (Some t) fault → IsStopped own (Some t) other → fault ≡ other
-
--- The edge that is refused is the project's or that of a package that is reached.
-abbrev pub EdgeLaw : Type 0
-EdgeLaw = (t : Tree) (own : List Pair) (fault : ReachFault) (s : IsStopped own (Some t) fault) → Reaches t own (target s.edge)
+-- There is one graph, or one refusal and never both. The graph's packages and edges are exactly those that the projects'
+-- wishes lead to.
+pub record SettledLaw (t : Tree) : Type 0 where
+  pub same : (i : Inputs) (root : ProjIx) (p q : Plain) → IsGraphOf (Some t) i root p → IsGraphOf (Some t) i root q → p ≡ q
+  pub cause : (i : Inputs) (f g : ChoiceFault) → Unplain i (Some t) f → Unplain i (Some t) g → f ≡ g
+  pub passed : (i : Inputs) (root : ProjIx) (p : Plain) (f : ChoiceFault) → IsGraphOf (Some t) i root p → Unplain i (Some t) f → ⊥
+  pub graph : (i : Inputs) (root : ProjIx) (p : Plain) → (h : IsGraphOf (Some t) i root p) → IsGraph (LeadsIn (Some t) i) (IsNodeOf (Some t)) h.walked.own h.state.met h.state.links

@@ -1,8 +1,9 @@
-pub mod Edges
-pub mod Firsts
-pub mod Found
-pub mod Walked
+pub mod Shows
+pub mod Cached
+pub mod Given
+pub mod Ways
+pub mod Goes
+pub mod Graphs
 pub mod Refusals
-pub mod Walks
-pub mod Reaches
 pub mod Laws
+pub mod Words

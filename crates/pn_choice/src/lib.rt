@@ -1,24 +1,27 @@
-//! The packages that a project reaches. A specifier is an exact version and means the registry's folder of
-//! that name and version. `reach` takes the project's edges, then those of each package in the order in which
-//! the packages are met, and reads a package's manifest at the edge that first meets it. Where the registry's
-//! tree is told, the packages are exactly the least set that is closed under dependencies (`reach_law`), and
-//! a refusal names the first edge that has a cause, which is the project's or that of a package that is reached
-//! (`edge_law`). The tree settles the answer: one list (`same_law`) or one refusal (`cause_law`), never both
-//! (`passed_law`).
+//! The plain graph of what projects ask for over a registry.
+//!
+//! `plain` takes the edges of the projects in order, then those of each package in the order in which the packages are met.
+//! A range leads to the greatest version that the old lockfile holds, else to the latest, else to the greatest of those that
+//! satisfy it; a tag to its own version. A package's manifest is read at the edge that first leads to it. The graph is the
+//! end of that walk (`pn_plain` has the definitions), and a refusal names the first edge that can't be taken.
 #![tactic(auto)]
 
+mod asked;
+mod face;
 mod fault;
-mod find;
-mod order;
+mod laws;
 mod package;
 mod project;
-mod reached;
-mod walk;
+mod shelf;
+mod sources;
+mod top;
+mod version;
+mod way;
+mod ways;
 
-pub use fault::ReachFault;
-pub use package::Package;
-pub use project::{cause_law, edge_law, passed_law, reach, reach_law, same_law};
-pub use reached::Reached;
-
-#[cfg(test)]
-mod tests;
+pub use fault::{ChoiceFault, RegistryLack};
+pub use laws::{folders_law, settled_law, short_law, words_law};
+pub use project::ProjectAt;
+pub use sources::{Sources, no_shelves};
+pub use top::plain;
+pub use way::WayFault;

@@ -7,12 +7,14 @@ use Rattle.pn_fs.specs.Tree.{Tree, IsTree}
 use Rattle.pn_fs.specs.Seen.{Taken}
 use Rattle.pn_fs.specs.Takes.{told_more}
 use Rattle.pn_node.specs.Plan.{Plan, IsBuilt}
-use Rattle.pn_manifest.specs.Fields.{edges_of}
-use Rattle.pn_manifest.specs.Pairs.{Pair}
+use Rattle.pn_manifest.specs.Fields.{said}
+use Rattle.pn_manifest.specs.Said.{Said}
+use Rattle.pn_graph.specs.declared.plain.Plain.{Plain}
 use Rattle.pn_plan.specs.Drawing.{is_within}
 use Rattle.pn_plan.specs.declared.planned.Planned.{Planned}
-use Rattle.pn_choice.specs.Walked.{IsReached}
-use Rattle.pn_choice.proofs.Settled.{same as same_reached}
+use Rattle.pn_choice.specs.Graphs.{IsGraphOf}
+use Rattle.pn_choice.proofs.SettledLemmas.{same as same_graph}
+use Rattle.pn_layout.specs.Links.{Pair}
 use Rattle.pn_layout.specs.declared.packages.Package.{Package}
 use Rattle.pn_layout.specs.declared.fault.LayoutFault.TheVariants.{TooLong as FaultLong}
 use Rattle.pn_layout.specs.Layout.{plan_of}
@@ -20,6 +22,7 @@ use Rattle.pn_layout.specs.Refusals.{LayoutRefused}
 use Rattle.pn_layout.specs.Sound.{contents}
 use Rattle.pn_layout.proofs.RefusedLemmas.{same_plan, cause as layout_cause, passed as layout_passed}
 use Rattle.pn_layout.proofs.Within.{within_from}
+use Rattle.pn_collect.specs.Outline.{direct_of}
 use Rattle.pn_collect.specs.Packages.{ArePackages}
 use Rattle.pn_collect.proofs.SameLemmas.{same as same_packages}
 use Rattle.pn_cmd.specs.declared.status.Which.TheVariants.{File, Path as PathLength}
@@ -32,32 +35,27 @@ use Rattle.pn_cmd.specs.Known.{Project, Graph, Sources, Build, project_of}
 use Rattle.pn_cmd.specs.Words.{words}
 use Rattle.pn_cmd.specs.Standing.{standing}
 use Rattle.pn_cmd.specs.Manifests.{Declares, manifest}
-use Rattle.pn_cmd.specs.Graph.{reached}
+use Rattle.pn_cmd.specs.Graph.{graph, inputs_of, root}
 use Rattle.pn_cmd.specs.Packages.{listed}
 use Rattle.pn_cmd.specs.Plans.{planned, IsPlanned}
-use Rattle.pn_cmd.specs.Chain.{words_at, workspace_at, manifest_at, lock_at, reached_at, modules_at, listed_at, planned_at, tree, goal, install}
+use Rattle.pn_cmd.specs.Chain.{words_at, workspace_at, manifest_at, lock_at, graph_at, modules_at, listed_at, planned_at, tree, goal, install}
 use Rattle.pn_cmd.specs.Reports.{report_of}
 use Rattle.pn_cmd.specs.Endings.{Ends, refused, stopped, unreported, done, Stops, Unreported, Untouched, IsDone, IsInstalled, Installs}
 use Rattle.pn_cmd.specs.Laws.{AreTold, IsOwn, Starts, EndAlike, SettledLaw}
 use Rattle.pn_cmd.proofs.CauseLemmas.{cause_in}
 use Rattle.pn_cmd.proofs.FoundLemmas.{same_manifest}
 use Rattle.pn_cmd.proofs.OrderLemmas.{order_law}
-use Rattle.pn_cmd.proofs.OnceLemmas.{told, words_once, stands_once, manifest_once, reached_once, listed_once}
+use Rattle.pn_cmd.proofs.OnceLemmas.{told, words_once, stands_once, manifest_once, graph_once, listed_once}
 use Rattle.pn_cmd.proofs.SettledLemmas.{IsSettled, own_free, then_settled, step_settled, plain_settled}
 
 are_told : (t r : Tree) → AreTold (told t r)
 are_told t r = record { tree = t; project = refl; packages = r; registry = refl }
 
--- the same packages, which the project reaches
-record OneGraph (r : Tree) (k j : Graph) : Type 0 where
-  same : k ≡ j
-  reached : IsReached (Some r) k.project.own k.met
-
 -- the same packages, with their files
 record OneSource (r : Tree) (k j : Sources) : Type 0 where
   graph : k.graph ≡ j.graph
-  first : ArePackages (Some r) k.graph.project.own k.graph.met k.packages
-  second : ArePackages (Some r) k.graph.project.own k.graph.met j.packages
+  first : ArePackages (Some r) k.graph.plain k.packages
+  second : ArePackages (Some r) k.graph.plain j.packages
 
 abbrev OneBuild : Tree → Build → Build → Type 0
 OneBuild r b c = OneSource r b.sources c.sources
@@ -81,8 +79,8 @@ standing_settled t r =
 workspace_settled : (t r : Tree) → IsSettled (told t r) Same Same workspace_at
 workspace_settled t r = step_settled (told t r) Same Any Same Same (λ p. workspace_name ∷ p) (λ p u. p) standing (standing_settled t r) (λ p q e. ap (λ p. workspace_name ∷ p) e) (λ p q u v e f g h. e)
 
-one_manifest : (t : Tree) (p : Path) (own other : List Pair) → Declares (Some t) p own → Declares (Some t) p other → own ≡ other
-one_manifest t p own other f g = f.edges ∙ ap edges_of (same_manifest (t p) f.value g.value f.manifest.read g.manifest.read) ∙ sym g.edges
+one_manifest : (t : Tree) (p : Path) (own other : Said) → Declares (Some t) p own → Declares (Some t) p other → own ≡ other
+one_manifest t p own other f g = f.says ∙ ap said (same_manifest (t p) f.value g.value f.manifest.read g.manifest.read) ∙ sym g.says
 
 manifest_settled : (t r : Tree) → IsSettled (told t r) Same Same manifest_at
 manifest_settled t r =
@@ -93,49 +91,49 @@ manifest_settled t r =
 lock_settled : (t r : Tree) → IsSettled (told t r) Same Same lock_at
 lock_settled t r = step_settled (told t r) Same Any Same Same (λ (k : Project). lock_name ∷ k.place) (λ k u. k) standing (standing_settled t r) (λ k j e. ap (λ (k : Project). lock_name ∷ k.place) e) (λ k j u v e f g h. e)
 
-reached_settled : (t r : Tree) → IsSettled (told t r) Same (OneGraph r) reached_at
-reached_settled t r =
-    step_settled (told t r) Same Same Same (OneGraph r) (λ (k : Project). k.own) (λ k met. record { project = k; met = met }) reached
-    (plain_settled (told t r) Same reached (λ own met others f g. same_reached r own met others f g) (λ x y s f c. order_law.reached x (told t r) y s (are_told t r) f c) (λ x s v c d o u. reached_once t r x s v c d o u))
-    (λ k j e. ap (λ (k : Project). k.own) e) (λ k j met others e f g h. record { same = λ i. record { project = e i; met = h i }; reached = f })
+graph_settled : (t r : Tree) → IsSettled (told t r) Same Same graph_at
+graph_settled t r =
+    step_settled (told t r) Same Same Same Same (λ (k : Project). k.said) (λ k plain. record { project = k; plain = plain }) graph
+    (plain_settled (told t r) Same graph (λ m p q f g. same_graph r (inputs_of m) root p q f g) (λ x y s f c. order_law.graph x (told t r) y s (are_told t r) f c) (λ x s v c d o u. graph_once t r x s v c d o u))
+    (λ k j e. ap (λ (k : Project). k.said) e) (λ k j p q e f g h. λ i. record { project = e i; plain = h i })
 
-modules_settled : (t r : Tree) → IsSettled (told t r) (OneGraph r) (OneGraph r) modules_at
-modules_settled t r = step_settled (told t r) Same Any (OneGraph r) (OneGraph r) (λ (k : Graph). modules_path k.project.place) (λ k u. k) standing (standing_settled t r) (λ k j e. ap (λ (k : Graph). modules_path k.project.place) e.same) (λ k j u v e f g h. e)
+modules_settled : (t r : Tree) → IsSettled (told t r) Same Same modules_at
+modules_settled t r = step_settled (told t r) Same Any Same Same (λ (k : Graph). modules_path k.project.place) (λ k u. k) standing (standing_settled t r) (λ k j e. ap (λ (k : Graph). modules_path k.project.place) e) (λ k j u v e f g h. e)
 
-listed_settled : (t r : Tree) → IsTree r → IsSettled (told t r) (OneGraph r) (OneSource r) listed_at
+listed_settled : (t r : Tree) → IsTree r → IsSettled (told t r) Same (OneSource r) listed_at
 listed_settled t r shape = record {
   finds = λ k j x z e f g. subst (λ (m : Sources). OneSource r m z) (sym f.is) (subst (OneSource r (record { graph = k; packages = f.value })) (sym g.is) (record {
-    graph = e.same;
+    graph = e;
     first = f.found;
-    second = subst (λ (m : Graph). ArePackages (Some r) m.project.own m.met g.value) (sym e.same) g.found;
+    second = subst (λ (m : Graph). ArePackages (Some r) m.plain g.value) (sym e) g.found;
   }));
-  apart = λ k j x s e f c. order_law.listed k (told t r) f.value s (are_told t r) f.found (subst (λ (m : Graph). listed.Cause m (told t r) s) (sym e.same) c);
-  other = λ k j x s e c f. order_law.listed k (told t r) f.value s (are_told t r) (subst (λ (m : Graph). ArePackages (Some r) m.project.own m.met f.value) (sym e.same) f.found) c;
-  cause = λ k j s v e c d o u. listed_once t r k.project.own k.met s v shape e.reached c (subst (λ (m : Graph). listed.Cause m (told t r) v) (sym e.same) d) o u;
+  apart = λ k j x s e f c. order_law.listed k (told t r) f.value s (are_told t r) f.found (subst (λ (m : Graph). listed.Cause m (told t r) s) (sym e) c);
+  other = λ k j x s e c f. order_law.listed k (told t r) f.value s (are_told t r) (subst (λ (m : Graph). ArePackages (Some r) m.plain f.value) (sym e) f.found) c;
+  cause = λ k j s v e c d o u. listed_once t r k.plain s v shape c (subst (λ (m : Graph). listed.Cause m (told t r) v) (sym e) d) o u;
 }
 
 one_list : (r : Tree) (k j : Sources) → OneSource r k j → map contents k.packages ≡ map contents j.packages
-one_list r k j e = same_packages r k.graph.project.own k.graph.met k.packages j.packages e.first e.second
+one_list r k j e = same_packages r k.graph.plain k.packages j.packages e.first e.second
 
-refused_first : (r : Tree) (k j : Sources) (n : ℕ) → OneSource r k j → LayoutRefused (modules_path j.graph.project.place) j.graph.project.own j.packages (FaultLong n) → LayoutRefused (modules_path k.graph.project.place) k.graph.project.own j.packages (FaultLong n)
-refused_first r k j n e h = subst (λ (m : Graph). LayoutRefused (modules_path m.project.place) m.project.own j.packages (FaultLong n)) (sym e.graph) h
+refused_first : (r : Tree) (k j : Sources) (n : ℕ) → OneSource r k j → LayoutRefused (modules_path j.graph.project.place) (direct_of j.graph.plain) j.packages (FaultLong n) → LayoutRefused (modules_path k.graph.project.place) (direct_of k.graph.plain) j.packages (FaultLong n)
+refused_first r k j n e h = subst (λ (m : Graph). LayoutRefused (modules_path m.project.place) (direct_of m.plain) j.packages (FaultLong n)) (sym e.graph) h
 
 planned_apart : (t r : Tree) (k j : Sources) (plan : List Planned) (s : Status) → OneSource r k j → IsPlanned k plan → planned.Cause j (told t r) s → IsFree s
 planned_apart t r k j plan (Limit PathLength n) e f c =
-    absurd (layout_passed r (modules_path k.graph.project.place) k.graph.project.own k.packages j.packages n (one_list r k j e) (f.fits r) (refused_first r k j n e c))
+    absurd (layout_passed r (modules_path k.graph.project.place) (direct_of k.graph.plain) k.packages j.packages n (one_list r k j e) (f.fits r) (refused_first r k j n e c))
 planned_apart t r k j plan s e f c = absurd c
 
 planned_once : (t r : Tree) (k j : Sources) (s v : Status) → OneSource r k j → planned.Cause k (told t r) s → planned.Cause j (told t r) v → s ≡ v
 planned_once t r k j (Limit PathLength n) (Limit PathLength m) e c d =
-    ap (Limit PathLength) (layout_cause (modules_path k.graph.project.place) k.graph.project.own k.packages j.packages n m (one_list r k j e) c (refused_first r k j m e d))
+    ap (Limit PathLength) (layout_cause (modules_path k.graph.project.place) (direct_of k.graph.plain) k.packages j.packages n m (one_list r k j e) c (refused_first r k j m e d))
 planned_once t r k j (Limit PathLength n) v e c d = absurd d
 planned_once t r k j s v e c d = absurd c
 
 turned : (r : Tree) (k j : Sources) → OneSource r k j → OneSource r j k
 turned r k j e = record {
   graph = sym e.graph;
-  first = subst (λ (m : Graph). ArePackages (Some r) m.project.own m.met j.packages) e.graph e.second;
-  second = subst (λ (m : Graph). ArePackages (Some r) m.project.own m.met k.packages) e.graph e.first;
+  first = subst (λ (m : Graph). ArePackages (Some r) m.plain j.packages) e.graph e.second;
+  second = subst (λ (m : Graph). ArePackages (Some r) m.plain k.packages) e.graph e.first;
 }
 
 planned_settled : (t r : Tree) → IsSettled (told t r) (OneSource r) (OneBuild r) planned_at
@@ -149,10 +147,10 @@ planned_settled t r = record {
 install_settled : (t r : Tree) → IsTree r → IsSettled (told t r) Same (OneBuild r) install
 install_settled t r shape =
     let w = told t r in
-    let last = then_settled w (OneGraph r) (OneSource r) (OneBuild r) listed_at planned_at (listed_settled t r shape) (planned_settled t r) in
-    let trees = then_settled w (OneGraph r) (OneGraph r) (OneBuild r) modules_at (then listed_at planned_at) (modules_settled t r) last in
-    let graph = then_settled w Same (OneGraph r) (OneBuild r) reached_at tree (reached_settled t r) trees in
-    let goals = then_settled w Same Same (OneBuild r) lock_at (then reached_at tree) (lock_settled t r) graph in
+    let last = then_settled w Same (OneSource r) (OneBuild r) listed_at planned_at (listed_settled t r shape) (planned_settled t r) in
+    let trees = then_settled w Same Same (OneBuild r) modules_at (then listed_at planned_at) (modules_settled t r) last in
+    let graph = then_settled w Same Same (OneBuild r) graph_at tree (graph_settled t r) trees in
+    let goals = then_settled w Same Same (OneBuild r) lock_at (then graph_at tree) (lock_settled t r) graph in
     let project = then_settled w Same Same (OneBuild r) manifest_at goal (manifest_settled t r) goals in
     let root = then_settled w Same Same (OneBuild r) workspace_at (then manifest_at goal) (workspace_settled t r) project in
     then_settled w Same Same (OneBuild r) words_at (then workspace_at (then manifest_at goal)) (words_settled t r) root
@@ -213,21 +211,21 @@ one_tree t u v top plan managed a b f g q = elim (is_within top q) as (λ w. is_
       ] refl
     ] refl
 
-installed_told : (registry : Option Tree) (place : Path) (own : List Pair) (packages : List Package) (t r : Tree) (old new : Option Tree) → registry ≡ Some r → old ≡ Some t → Installs registry place own packages old new → (u : Tree) × (new ≡ Some u) × IsInstalled (Some r) place own packages t u
-installed_told registry place own packages t r old new er eo h = subst (λ (o : Option Tree). Installs o place own packages (Some t) new) er (subst (λ (o : Option Tree). Installs registry place own packages o new) eo h)
+installed_told : (registry : Option Tree) (place : Path) (m : Said) (plain : Plain) (packages : List Package) (t r : Tree) (old new : Option Tree) → registry ≡ Some r → old ≡ Some t → Installs registry place m plain packages old new → (u : Tree) × (new ≡ Some u) × IsInstalled (Some r) place m plain packages t u
+installed_told registry place m plain packages t r old new er eo h = subst (λ (o : Option Tree). Installs o place m plain packages (Some t) new) er (subst (λ (o : Option Tree). Installs registry place m plain packages o new) eo h)
 
 -- two runs that are done
 both_done : (i : Inputs) (t r : Tree) (old new other now : World) (s v : Status) → Starts t r old → Starts t r other → s ≡ Done → v ≡ Done → (a b : Build) → IsDone i a old new → IsDone i b other now → OneBuild r a b → EndAlike old new other now s v
 both_done i t r old new other now s v st ot es ev a b da db one =
     let top = modules_path i.place in
-    let own = a.sources.graph.project.own in
+    let own = direct_of a.sources.graph.plain in
     let p = a.sources.packages in
     let q = b.sources.packages in
     let same : map contents p ≡ map contents q = one_list r a.sources b.sources one in
-    let owns : b.sources.graph.project.own ≡ own = sym (ap (λ (g : Graph). g.project.own) one.graph) in
-    let plans : plan_of r top b.sources.graph.project.own q ≡ plan_of r top own p = ap (λ (l : List Pair). plan_of r top l q) owns ∙ sym (same_plan r top own p q same) in
-    let ia = installed_told old.registry.tree i.place own p t r old.project.tree new.project.tree st.registry st.project da.written.project in
-    let ib = installed_told other.registry.tree i.place b.sources.graph.project.own q t r other.project.tree now.project.tree ot.registry ot.project db.written.project in
+    let owns : direct_of b.sources.graph.plain ≡ own = sym (ap (λ (g : Graph). direct_of g.plain) one.graph) in
+    let plans : plan_of r top (direct_of b.sources.graph.plain) q ≡ plan_of r top own p = ap (λ (l : List Pair). plan_of r top l q) owns ∙ sym (same_plan r top own p q same) in
+    let ia = installed_told old.registry.tree i.place a.sources.graph.project.said a.sources.graph.plain p t r old.project.tree new.project.tree st.registry st.project da.written.project in
+    let ib = installed_told other.registry.tree i.place b.sources.graph.project.said b.sources.graph.plain q t r other.project.tree now.project.tree ot.registry ot.project db.written.project in
     let built : IsBuilt ib.0 (plan_of r top own p) = subst (IsBuilt ib.0) plans ib.2.built in
     let trees : ia.0 ≡ ib.0 = λ j x. one_tree t ia.0 ib.0 top (plan_of r top own p) refl ia.2.built built ia.2.others ib.2.others x j in
     let lengths : length p ≡ length q = sym (length-map p contents) ∙ ap length same ∙ length-map q contents in

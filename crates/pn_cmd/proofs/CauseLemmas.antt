@@ -1,13 +1,16 @@
 -- How a run ends gives each answer its cause.
 use Rattle.std.proofs.Common.{◌≡◌, ◌⊎◌, ◌∷◌, refl, sym, subst, inl, inr}
 use Rattle.pn_text.specs.Path.{Path}
-use Rattle.pn_choice.specs.declared.fault.ReachFault.{ReachFault}
-use Rattle.pn_choice.specs.declared.fault.ReachFault.TheVariants.{NotYet as FaultNotYet, NoVersion as FaultNoVersion, TextLimit as FaultText, Manifest as FaultManifest, Packages as FaultPackages, Fault as ReachFailed, Memory as NoReachMemory}
-use Rattle.pn_choice.specs.Refusals.{IsStopped}
+use Rattle.pn_choice.specs.declared.fault.ChoiceFault.{ChoiceFault}
+use Rattle.pn_choice.specs.declared.fault.ChoiceFault.TheVariants.{Unsupported as FaultUnsupported, Unbuilt as FaultUnbuilt, NoVersion as FaultNoVersion, Registry as FaultRegistry, Packages as FaultPackages, Fault as ChoiceFailed, Memory as NoChoiceMemory}
+use Rattle.pn_choice.specs.declared.fault.RegistryLack.{RegistryLack}
+use Rattle.pn_choice.specs.declared.fault.RegistryLack.TheVariants.{BadTags as LackTags, Entries as LackEntries, Wrong as LackManifest, TooLarge as LackText, Unbuilt as LackUnbuilt}
+use Rattle.pn_choice.specs.Refusals.{Unplain}
 use Rattle.pn_collect.specs.declared.fault.CollectFault.{CollectFault}
 use Rattle.pn_collect.specs.declared.fault.CollectFault.TheVariants.{Modules, TooLarge, Entries as FaultEntries, Fault as CollectFailed, Memory as NoCollectMemory}
 use Rattle.pn_collect.specs.CollectFaults.{IsFirstRefused}
 use Rattle.pn_cmd.specs.declared.status.Which.TheVariants.{File, Text, Path as PathLength}
+use Rattle.pn_cmd.specs.declared.status.FileWhy.TheVariants.{Manifest as of_manifest}
 use Rattle.pn_cmd.specs.declared.status.Status.{Status}
 use Rattle.pn_cmd.specs.declared.status.Status.TheVariants.{Memory, Usage, Manifest as BadManifest, Limit, ProjectFault, RegistryFault, SinkFault, NotYet}
 use Rattle.pn_cmd.specs.World.{World, Inputs, Shown, shown, trees_of}
@@ -15,17 +18,17 @@ use Rattle.pn_cmd.specs.Points.{Refuses, then}
 use Rattle.pn_cmd.specs.Names.{workspace_name, package_name, lock_name, modules_path}
 use Rattle.pn_cmd.specs.Standing.{Stands}
 use Rattle.pn_cmd.specs.Manifests.{NoManifest}
-use Rattle.pn_cmd.specs.Graph.{reach_status}
+use Rattle.pn_cmd.specs.Graph.{lack_status, choice_status, inputs_of}
 use Rattle.pn_cmd.specs.Known.{Graph, Project, Sources, Build}
 use Rattle.pn_cmd.specs.Packages.{collect_status}
 use Rattle.pn_cmd.specs.Plans.{TooLong}
-use Rattle.pn_cmd.specs.Chain.{words_at, workspace_at, manifest_at, lock_at, reached_at, modules_at, listed_at, planned_at, tree, goal, install, to_workspace, to_manifest, to_lock, to_reached, to_modules, StandsAt, at_words, at_workspace, at_manifest, at_lock, at_reached, at_modules, at_listed, at_planned}
+use Rattle.pn_cmd.specs.Chain.{words_at, workspace_at, manifest_at, lock_at, graph_at, modules_at, listed_at, planned_at, tree, goal, install, to_workspace, to_manifest, to_lock, to_graph, to_modules, StandsAt, at_words, at_workspace, at_manifest, at_lock, at_graph, at_modules, at_listed, at_planned}
 use Rattle.pn_cmd.specs.Endings.{refused, stopped, unreported, done, Stops, Unreported}
-use Rattle.pn_cmd.specs.Causes.{CauseOf, IsKept, IsUnread, IsUnreached, IsUnlisted, IsUnplanned}
+use Rattle.pn_cmd.specs.Causes.{CauseOf, IsKept, IsUnread, IsUngraphed, IsUnlisted, IsUnplanned}
 use Rattle.pn_cmd.specs.Laws.{CauseLaw}
 use Rattle.pn_cmd.proofs.PointLemmas.{leads_then}
 
-tree_at : (i : Inputs) (w : Shown) (s : Status) (k : Graph) → to_reached.Finds i w.trees k → tree.Cause k w s → StandsAt i w s
+tree_at : (i : Inputs) (w : Shown) (s : Status) (k : Graph) → to_graph.Finds i w.trees k → tree.Cause k w s → StandsAt i w s
 tree_at i w s k f =
     leads_then modules_at (then listed_at planned_at) k w s (λ c. at_modules (k, f, c)) (λ k6 f6.
     let g6 : to_modules.Finds i w.trees k6 = record { value = k; first = f; rest = f6 } in
@@ -34,9 +37,9 @@ tree_at i w s k f =
 
 goal_at : (i : Inputs) (w : Shown) (s : Status) (k : Project) → to_manifest.Finds i w.trees k → goal.Cause k w s → StandsAt i w s
 goal_at i w s k f =
-    leads_then lock_at (then reached_at tree) k w s (λ c. at_lock (k, f, c)) (λ k4 f4.
+    leads_then lock_at (then graph_at tree) k w s (λ c. at_lock (k, f, c)) (λ k4 f4.
     let g4 : to_lock.Finds i w.trees k4 = record { value = k; first = f; rest = f4 } in
-    leads_then reached_at tree k4 w s (λ c. at_reached (k4, g4, c)) (λ k5 f5 c.
+    leads_then graph_at tree k4 w s (λ c. at_graph (k4, g4, c)) (λ k5 f5 c.
     tree_at i w s k5 (record { value = k4; first = g4; rest = f5 }) c))
 
 -- the cause of a refusal is at one of the points, after all that is found before it
@@ -62,28 +65,35 @@ manifest_cause : (i : Inputs) (old new : World) (s : Status) (p : Path) → NoMa
 manifest_cause i old new ProjectFault p h k r = r.0
 manifest_cause i old new (Limit PathLength n) p h k r = inr (inl k)
 manifest_cause i old new (Limit Text n) p h k r = inl k
-manifest_cause i old new (BadManifest text why) p h k r = inl k
+manifest_cause i old new (BadManifest text (of_manifest why)) p h k r = inl k
 manifest_cause i old new (NotYet key) p h k r = inr (inl k)
 manifest_cause i old new s p h k r = absurd h
 
-reach_cause : (i : Inputs) (old new : World) (k : Project) → to_lock.Finds i (shown old).trees k → (fault : ReachFault) → IsStopped k.own old.registry.tree fault → CauseOf i old new (reach_status fault)
-reach_cause i old new k f (FaultNotYet text) h = inr (inr (inl (k, f, (FaultNotYet text, refl, h))))
-reach_cause i old new k f (FaultNoVersion e) h = (k, f, (FaultNoVersion e, refl, h))
-reach_cause i old new k f (FaultText n) h = inr (k, f, (FaultText n, refl, h))
-reach_cause i old new k f (FaultManifest id why) h = inr (k, f, (FaultManifest id why, refl, h))
-reach_cause i old new k f (FaultPackages n) h = (k, f, (FaultPackages n, refl, h))
-reach_cause i old new k f ReachFailed h = absurd h.refused
-reach_cause i old new k f NoReachMemory h = tt
+lack_cause : (i : Inputs) (old new : World) (k : Project) → to_lock.Finds i (shown old).trees k → (lack : RegistryLack) → Unplain (inputs_of k.said) old.registry.tree (FaultRegistry lack) → CauseOf i old new (lack_status lack)
+lack_cause i old new k f (LackTags name) h = inr (k, f, (FaultRegistry (LackTags name), refl, h))
+lack_cause i old new k f LackEntries h = inl (k, f, (FaultRegistry LackEntries, refl, h))
+lack_cause i old new k f (LackManifest id why) h = inr (k, f, (FaultRegistry (LackManifest id why), refl, h))
+lack_cause i old new k f (LackText id n) h = inr (k, f, (FaultRegistry (LackText id n), refl, h))
+lack_cause i old new k f (LackUnbuilt text) h = inr (inr (k, f, (FaultRegistry (LackUnbuilt text), refl, h)))
 
-reached_cause : (i : Inputs) (old new : World) (s : Status) → IsUnreached i (shown old) s → Refuses (install.Cause i) old new s → CauseOf i old new s
-reached_cause i old new RegistryFault h r = r.0
-reached_cause i old new s h r = subst (CauseOf i old new) (sym h.2.1) (reach_cause i old new h.0 h.1 h.2.0 h.2.2)
+choice_cause : (i : Inputs) (old new : World) (k : Project) → to_lock.Finds i (shown old).trees k → (fault : ChoiceFault) → Unplain (inputs_of k.said) old.registry.tree fault → CauseOf i old new (choice_status fault)
+choice_cause i old new k f (FaultUnsupported e) h = (k, f, (FaultUnsupported e, refl, h))
+choice_cause i old new k f (FaultUnbuilt e) h = inr (inr (k, f, (FaultUnbuilt e, refl, h)))
+choice_cause i old new k f (FaultNoVersion e) h = (k, f, (FaultNoVersion e, refl, h))
+choice_cause i old new k f (FaultRegistry lack) h = lack_cause i old new k f lack h
+choice_cause i old new k f (FaultPackages n) h = (k, f, (FaultPackages n, refl, h))
+choice_cause i old new k f ChoiceFailed h = absurd h
+choice_cause i old new k f NoChoiceMemory h = tt
 
-collect_cause : (i : Inputs) (old new : World) (k : Graph) → to_modules.Finds i (shown old).trees k → (fault : CollectFault) → IsFirstRefused k.met old.registry.tree fault → CauseOf i old new (collect_status fault)
-collect_cause i old new k f (Modules path) h = inr (inr (inr (k, f, (Modules path, refl, h))))
+graph_cause : (i : Inputs) (old new : World) (s : Status) → IsUngraphed i (shown old) s → Refuses (install.Cause i) old new s → CauseOf i old new s
+graph_cause i old new RegistryFault h r = r.0
+graph_cause i old new s h r = subst (CauseOf i old new) (sym h.2.1) (choice_cause i old new h.0 h.1 h.2.0 h.2.2)
+
+collect_cause : (i : Inputs) (old new : World) (k : Graph) → to_modules.Finds i (shown old).trees k → (fault : CollectFault) → IsFirstRefused k.plain old.registry.tree fault → CauseOf i old new (collect_status fault)
+collect_cause i old new k f (Modules id path) h = (k, f, (Modules id path, refl, h))
 collect_cause i old new k f (TooLarge n) h = inl (k, f, (TooLarge n, refl, h))
-collect_cause i old new k f FaultEntries h = (k, f, (FaultEntries, refl, h))
-collect_cause i old new k f CollectFailed h = absurd h.refused
+collect_cause i old new k f FaultEntries h = inr (k, f, (FaultEntries, refl, h))
+collect_cause i old new k f CollectFailed h = absurd h.first.failed
 collect_cause i old new k f NoCollectMemory h = tt
 
 listed_cause : (i : Inputs) (old new : World) (s : Status) → IsUnlisted i (shown old) s → Refuses (install.Cause i) old new s → CauseOf i old new s
@@ -99,7 +109,7 @@ at_point i old new s (at_words h) r = words_cause i old new s h
 at_point i old new s (at_workspace h) r = stands_cause i old new s (workspace_name ∷ h.0) h.2 (inl h) r
 at_point i old new s (at_manifest h) r = manifest_cause i old new s (package_name ∷ h.0) h.2 h r
 at_point i old new s (at_lock h) r = stands_cause i old new s (lock_name ∷ h.0.place) h.2 (inr (inl h)) r
-at_point i old new s (at_reached h) r = reached_cause i old new s h r
+at_point i old new s (at_graph h) r = graph_cause i old new s h r
 at_point i old new s (at_modules h) r = stands_cause i old new s (modules_path h.0.project.place) h.2 (inr (inr h)) r
 at_point i old new s (at_listed h) r = listed_cause i old new s h r
 at_point i old new s (at_planned h) r = planned_cause i old new s h.0 h.2 h

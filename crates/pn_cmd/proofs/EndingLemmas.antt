@@ -8,9 +8,9 @@ use Rattle.pn_node.specs.Plan.{IsBuilt}
 use Rattle.pn_layout.specs.Layout.{plan_of}
 use Rattle.pn_plan.specs.Plan.{is_planned, IsRising, IsWritable, IsCopyable}
 use Rattle.pn_plan.specs.Writes.{Writes, DiffersOnly}
-use Rattle.pn_collect.specs.Outline.{HaveFiles}
+use Rattle.pn_collect.specs.Outline.{HaveFiles, direct_of}
 use Rattle.pn_collect.specs.Packages.{ArePackages}
-use Rattle.pn_choice.specs.Walked.{IsReached}
+use Rattle.pn_choice.specs.Graphs.{IsGraphOf}
 use Rattle.pn_cmd.specs.declared.status.Status.{Status}
 use Rattle.pn_cmd.specs.declared.status.Status.TheVariants.{Done, Memory, SinkFault}
 use Rattle.pn_cmd.specs.declared.ready.Ready.{Ready}
@@ -18,6 +18,7 @@ use Rattle.pn_cmd.specs.World.{World, Inputs, trees_of, AreKept}
 use Rattle.pn_cmd.specs.Points.{Refuses}
 use Rattle.pn_cmd.specs.Names.{package_name, modules_path}
 use Rattle.pn_cmd.specs.Known.{Build, build_of}
+use Rattle.pn_cmd.specs.Graph.{inputs_of, root}
 use Rattle.pn_cmd.specs.Manifests.{IsManifest}
 use Rattle.pn_cmd.specs.Reports.{report, Reported}
 use Rattle.pn_cmd.specs.Chain.{install}
@@ -59,14 +60,14 @@ ready_writable i old new ready tree k is rising t told =
     let read : IsManifest (t (package_name ∷ i.place)) p.declares.value = subst (λ (o : Option Tree). IfSome o (λ t. IsManifest (t (package_name ∷ i.place)) p.declares.value)) at p.declares.manifest.read in
     let absent : t (modules_path i.place) ≡ None = subst (λ (o : Option Tree). IfSome o (λ t. t (modules_path i.place) ≡ None)) at p.free.absent in
     let parent : t i.place ≡ Some folder = (tree t told).parents package_name i.place _ read.stands.is in
-    can_write t i.place is.0 ready.packages.items ready.plan (tree t told) absent parent rising p.planned.is
+    can_write t i.place (direct_of is.1) ready.packages.items ready.plan (tree t told) absent parent rising p.planned.is
 
 pub ready_copyable : (i : Inputs) (old new : World) (ready : Ready) → AreKept old new → IsReady i (trees_of old) ready → ForSome new.registry.tree (λ r. IsCopyable r ready.plan)
 ready_copyable i old new ready k is r told =
     let at : old.registry.tree ≡ Some r = sym k.registry.tree ∙ told in
     let p = passed_of i old ready is in
     let files : HaveFiles r ready.packages.items = subst (λ (o : Option Tree). IfSome o (λ r. HaveFiles r ready.packages.items)) at p.listed.files in
-    can_copy r i.place is.0 ready.packages.items ready.plan p.planned.is files
+    can_copy r i.place (direct_of is.1) ready.packages.items ready.plan p.planned.is files
 
 -- how a run ends in the writing
 pub stopped_by : (s : Status) (i : Inputs) (old mid new : World) (ready : Ready) → AreKept old mid → IsReady i (trees_of old) ready → Keeps mid.registry new.registry → new.out ≡ mid.out
@@ -74,7 +75,7 @@ pub stopped_by : (s : Status) (i : Inputs) (old mid new : World) (ready : Ready)
 stopped_by s i old mid new ready k is held out differs stops =
     let p = passed_of i old ready is in
     stopped s (build_of i.place is.0 is.1 ready.packages.items ready.plan) is.2 (refuses_from Stops Stops old mid new s k (λ s h. h) stops) (record {
-      project = only_below i.place is.0 ready.packages.items ready.plan old.project.tree new.project.tree p.planned.is (subst (λ t. DiffersOnly (is_planned ready.plan) t new.project.tree) k.project.tree differs);
+      project = only_below i.place (direct_of is.1) ready.packages.items ready.plan old.project.tree new.project.tree p.planned.is (subst (λ t. DiffersOnly (is_planned ready.plan) t new.project.tree) k.project.tree differs);
       registry = held.tree ∙ k.registry.tree;
       out = out ∙ k.out;
     })
@@ -83,14 +84,14 @@ written_by : (i : Inputs) (old mid new : World) (ready : Ready) → ((t : Tree) 
     → Keeps mid.registry new.registry → Writes mid.registry.tree ready.plan mid.project.tree new.project.tree → Written i (build_of i.place is.0 is.1 ready.packages.items ready.plan) old new
 written_by i old mid new ready tree after k is held writes =
     let p = passed_of i old ready is in
-    let own = is.0 in
-    let met = is.1 in
+    let m = is.0 in
+    let plain = is.1 in
     let packages = ready.packages.items in
     let from_registry : Writes old.registry.tree ready.plan mid.project.tree new.project.tree = subst (λ r. Writes r ready.plan mid.project.tree new.project.tree) k.registry.tree writes in
-    let looks = λ (r u : Tree) (told : old.registry.tree ≡ Some r) (tree : IsTree u) (built : IsBuilt u (plan_of r (modules_path i.place) own packages)).
-    all_found r u i.place own met packages tree (subst (λ (o : Option Tree). IsReached o own met) told p.reached) (subst (λ (o : Option Tree). ArePackages o own met packages) told p.listed) built in
+    let looks = λ (r u : Tree) (told : old.registry.tree ≡ Some r) (tree : IsTree u) (built : IsBuilt u (plan_of r (modules_path i.place) (direct_of plain) packages)).
+    all_found r u i.place m plain packages tree (subst (λ (o : Option Tree). IsGraphOf o (inputs_of m) root plain) told p.graph) (subst (λ (o : Option Tree). ArePackages o plain packages) told p.listed) built in
     record {
-      project = installs old.registry.tree i.place own packages ready.plan old.project.tree new.project.tree p.planned.is p.listed.stand tree after looks p.free.absent
+      project = installs old.registry.tree i.place m plain packages ready.plan old.project.tree new.project.tree p.planned.is p.listed.stand tree after looks p.free.absent
           (subst (λ t. Writes old.registry.tree ready.plan t new.project.tree) k.project.tree from_registry);
       registry = held.tree ∙ k.registry.tree;
     }

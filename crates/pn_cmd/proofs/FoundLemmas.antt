@@ -5,8 +5,9 @@ use Rattle.serde_json.specs.Data.{Data}
 use Rattle.pn_text.specs.Path.{Path}
 use Rattle.pn_fs.specs.Tree.{Entry, Tree}
 use Rattle.pn_fs.proofs.SeenLemmas.{file_once}
-use Rattle.pn_manifest.specs.Pairs.{Pair}
-use Rattle.pn_manifest.specs.Fields.{edges_of}
+use Rattle.pn_manifest.specs.Said.{Said}
+use Rattle.pn_manifest.specs.Fields.{said}
+use Rattle.pn_graph.specs.declared.plain.Plain.{Plain}
 use Rattle.pn_layout.specs.declared.packages.Package.{Package}
 use Rattle.pn_cmd.specs.World.{trees_of}
 use Rattle.pn_cmd.specs.Names.{package_name}
@@ -22,18 +23,18 @@ use Rattle.pn_cmd.proofs.PassedLemmas.{has_passed}
 pub same_manifest : (e : Option Entry) (d f : Data) → IsManifest e d → IsManifest e f → d ≡ f
 same_manifest e d f h k = same_data h.bytes k.bytes d f (file_once e h.bytes k.bytes h.stands.is k.stands.is) h.text k.text
 
-pub installed_at : (registry : Option Tree) (place : Path) (own : List Pair) (packages : List Package) (t u r : Tree) (old new : Option Tree) → registry ≡ Some r → old ≡ Some t → new ≡ Some u → Installs registry place own packages old new → IsInstalled (Some r) place own packages t u
-installed_at registry place own packages t u r old new er eo en h =
-    let at : Installs (Some r) place own packages (Some t) new = subst (λ (o : Option Tree). Installs o place own packages (Some t) new) er (subst (λ (o : Option Tree). Installs registry place own packages o new) eo h) in
+pub installed_at : (registry : Option Tree) (place : Path) (m : Said) (plain : Plain) (packages : List Package) (t u r : Tree) (old new : Option Tree) → registry ≡ Some r → old ≡ Some t → new ≡ Some u → Installs registry place m plain packages old new → IsInstalled (Some r) place m plain packages t u
+installed_at registry place m plain packages t u r old new er eo en h =
+    let at : Installs (Some r) place m plain packages (Some t) new = subst (λ (o : Option Tree). Installs o place m plain packages (Some t) new) er (subst (λ (o : Option Tree). Installs registry place m plain packages o new) eo h) in
     let same : at.0 ≡ u = let both : Some at.0 ≡ Some u = sym at.1 ∙ en in cc in
-    subst (IsInstalled (Some r) place own packages t) same at.2
+    subst (IsInstalled (Some r) place m plain packages t) same at.2
 
 pub lookup_law : LookupLaw
 lookup_law i old new ends r t u d er et eu manifest =
     let done = end_cause i old new _ ends in
     let b = done.0 in
-    let own = b.sources.graph.project.own in
+    let m = b.sources.graph.project.said in
     let p = has_passed i (trees_of old) b done.1.passed in
     let read : IsManifest (t (package_name ∷ i.place)) p.declares.value = subst (λ (o : Option Tree). IfSome o (λ t. IsManifest (t (package_name ∷ i.place)) p.declares.value)) et p.declares.manifest.read in
-    let same : own ≡ edges_of d = p.declares.edges ∙ ap edges_of (same_manifest (t (package_name ∷ i.place)) p.declares.value d read manifest) in
-    subst (LooksUp r u i.place) same (installed_at old.registry.tree i.place own b.sources.packages t u r old.project.tree new.project.tree er et eu done.1.written.project).lookup
+    let same : m ≡ said d = p.declares.says ∙ ap said (same_manifest (t (package_name ∷ i.place)) p.declares.value d read manifest) in
+    subst (LooksUp r u i.place) same (installed_at old.registry.tree i.place m b.sources.graph.plain b.sources.packages t u r old.project.tree new.project.tree er et eu done.1.written.project).lookup

@@ -3,6 +3,7 @@ pub mod AlikeLemmas
 pub mod CauseLemmas
 pub mod EndingLemmas
 pub mod FoundLemmas
+pub mod GraphLemmas
 pub mod LookupLemmas
 pub mod ManifestLemmas
 pub mod OnceLemmas
@@ -13,3 +14,4 @@ pub mod SettledLemmas
 pub mod StandingLemmas
 pub mod TakenLemmas
 pub mod WrittenLemmas
+mod LinkLemmas

@@ -6,37 +6,32 @@ use Rattle.pn_text.specs.declared.limits.TheConstants.{PATH_LIMIT}
 use Rattle.pn_text.specs.Path.{Path, path_text}
 use Rattle.pn_fs.specs.Tree.{Tree}
 use Rattle.pn_manifest.specs.Text.{IsObjectText}
-use Rattle.pn_manifest.specs.Fields.{first_wrong, name_of, edges_of}
-use Rattle.pn_manifest.specs.Pairs.{but_own}
+use Rattle.pn_manifest.specs.Fields.{first_wrong}
 use Rattle.pn_manifest.specs.Refusals.{WrongBytes}
-use Rattle.pn_manifest.specs.Says.{Says}
+use Rattle.pn_manifest.specs.Says.{said_of}
 use Rattle.pn_manifest.specs.declared.manifest.Manifest.{Manifest}
-use Rattle.pn_choice.specs.Edges.{edges_by}
 use Rattle.pn_manifest.specs.declared.fault.ManifestWhy.{ManifestWhy}
 use Rattle.pn_manifest.specs.declared.fault.ManifestWhy.TheVariants.{Missing, NotJson, BadField}
+use Rattle.pn_cmd.specs.declared.status.FileWhy.TheVariants.{Manifest as of_manifest}
 use Rattle.pn_cmd.specs.declared.status.Status.{Status}
 use Rattle.pn_cmd.specs.declared.status.Status.TheVariants.{Memory, Manifest as BadManifest, NotYet}
 use Rattle.pn_cmd.specs.World.{World}
 use Rattle.pn_cmd.specs.Points.{Refuses}
 use Rattle.pn_cmd.specs.Manifests.{NoManifest, Declares, IsText, IsManifest, FoundIn, BytesRefused, IsWrong, project_later}
 
--- what a manifest asks for is what its object says
-same_edges : (d : Data) (m : Manifest) → Says d m → edges_by m ≡ edges_of d
-same_edges d m says = ap (λ n. but_own n m.dependencies) says.name ∙ ap (but_own (name_of d)) says.dependencies
-
 read_at : (shown : Option Tree) (p : Path) (bytes : List ℕ) (d : Data) → IfSome shown (λ t. IsText (t p) bytes) → IsObjectText bytes d → first_wrong d ≡ None → IfSome shown (λ t. IsManifest (t p) d)
 read_at None p bytes d is text right = tt
 read_at (Some t) p bytes d is text right = record { bytes = bytes; stands = is; text = text; right = right }
 
 -- a manifest that the bytes say is the one that stands where they were read
-found_at : (m : Manifest) (shown : Option Tree) (p : Path) (bytes : List ℕ) → length (path_text p) ≤ PATH_LIMIT → IfSome shown (λ t. IsText (t p) bytes) → FoundIn bytes m → Declares shown p (edges_by m)
+found_at : (m : Manifest) (shown : Option Tree) (p : Path) (bytes : List ℕ) → length (path_text p) ≤ PATH_LIMIT → IfSome shown (λ t. IsText (t p) bytes) → FoundIn bytes m → Declares shown p (said_of m)
 found_at m shown p bytes fits is h = record {
   value = h.0;
   manifest = record { fits = fits; read = read_at shown p bytes h.0 is h.1 h.2; right = h.2; built = h.3 };
-  edges = same_edges h.0 m h.4;
+  says = h.4;
 }
 
-pub found_ok : (r : Result Manifest Status) (shown : Option Tree) (p q : Path) (bytes slice : List ℕ) → length (path_text q) ≤ PATH_LIMIT → IfSome shown (λ t. IsText (t p) bytes) → slice ≡ bytes → p ≡ q → IfOk r (FoundIn slice) → IfOk r (λ m. Declares shown q (edges_by m))
+pub found_ok : (r : Result Manifest Status) (shown : Option Tree) (p q : Path) (bytes slice : List ℕ) → length (path_text q) ≤ PATH_LIMIT → IfSome shown (λ t. IsText (t p) bytes) → slice ≡ bytes → p ≡ q → IfOk r (FoundIn slice) → IfOk r (λ m. Declares shown q (said_of m))
 found_ok (Err s) shown p q bytes slice fits is same at h = tt
 found_ok (Ok m) shown p q bytes slice fits is same at h = found_at m shown q bytes fits (subst (λ x. IfSome shown (λ t. IsText (t x) bytes)) at is) (subst (λ b. FoundIn b m) same h)
 
@@ -53,7 +48,7 @@ later_at key (Some t) p bytes d is text right later = (d, record { bytes = bytes
 
 refused_at : (s : Status) (old new : World) (p : Path) (bytes : List ℕ) → length (path_text p) ≤ PATH_LIMIT → IfSome old.project.tree (λ t. IsText (t p) bytes) → BytesRefused p bytes s → Refuses (NoManifest p) old new s
 refused_at Memory old new p bytes fits is h = tt
-refused_at (BadManifest text why) old new p bytes fits is h = (fits, h.0, wrong_at why old.project.tree p bytes is h.1)
+refused_at (BadManifest text (of_manifest why)) old new p bytes fits is h = (fits, h.0, wrong_at why old.project.tree p bytes is h.1)
 refused_at (NotYet key) old new p bytes fits is h = (fits, later_at key old.project.tree p bytes h.0 is h.1 h.2 h.3)
 refused_at s old new p bytes fits is h = absurd h
 

@@ -9,24 +9,24 @@ use Rattle.pn_fs.proofs.SeenLemmas.{file_once as same_file}
 use Rattle.pn_read.specs.Small.{IsFileOf}
 use Rattle.pn_manifest.specs.Text.{IsObjectText}
 use Rattle.pn_manifest.specs.Fields.{first_wrong}
-use Rattle.pn_manifest.specs.Pairs.{Pair}
-use Rattle.pn_choice.specs.Walked.{IsReached}
-use Rattle.pn_choice.specs.Refusals.{IsStopped}
-use Rattle.pn_choice.specs.declared.fault.ReachFault.{ReachFault}
-use Rattle.pn_choice.specs.declared.package.Package.{Package as Found}
-use Rattle.pn_choice.proofs.Settled.{cause as reached_cause}
+use Rattle.pn_manifest.specs.Said.{Said}
+use Rattle.pn_graph.specs.declared.plain.Plain.{Plain}
+use Rattle.pn_choice.specs.Refusals.{Unplain}
+use Rattle.pn_choice.specs.declared.fault.ChoiceFault.{ChoiceFault}
+use Rattle.pn_choice.proofs.SettledLemmas.{cause as graph_cause}
 use Rattle.pn_collect.specs.CollectFaults.{IsFirstRefused}
 use Rattle.pn_collect.specs.declared.fault.CollectFault.{CollectFault}
 use Rattle.pn_collect.proofs.CauseLemmas.{cause as listed_cause}
 use Rattle.pn_manifest.specs.declared.fault.ManifestWhy.TheVariants.{Missing, NotJson, BadField}
 use Rattle.pn_cmd.specs.declared.status.Which.TheVariants.{Text, Path as PathLength}
+use Rattle.pn_cmd.specs.declared.status.FileWhy.TheVariants.{Manifest as of_manifest}
 use Rattle.pn_cmd.specs.declared.status.Status.{Status}
 use Rattle.pn_cmd.specs.declared.status.Status.TheVariants.{Usage, Manifest as BadManifest, Limit, ProjectFault, RegistryFault, NotYet}
 use Rattle.pn_cmd.specs.World.{Shown}
 use Rattle.pn_cmd.specs.Words.{AreNoCommand}
 use Rattle.pn_cmd.specs.Standing.{Stands}
 use Rattle.pn_cmd.specs.Manifests.{NoManifest, IsText, IsManifest, IsWrong, project_later}
-use Rattle.pn_cmd.specs.Graph.{Unreached, reach_status}
+use Rattle.pn_cmd.specs.Graph.{HasNoGraph, choice_status, inputs_of}
 use Rattle.pn_cmd.specs.Packages.{Unlisted, collect_status}
 use Rattle.pn_cmd.specs.Laws.{IsOwn}
 use Rattle.pn_cmd.proofs.OrderLemmas.{same_data}
@@ -60,7 +60,7 @@ stands_once p w s v h k o u = one (stands_as p w s o h) (stands_as p w v u k)
 -- why a file that is told is refused as a manifest
 abbrev FileRefused : Path → Option Entry → Status → Type 0
 FileRefused p e (Limit Text n) = (TEXT_LIMIT < n) × IsFileOf n e
-FileRefused p e (BadManifest text why) = (text ≡ path_text p) × IsWrong e why
+FileRefused p e (BadManifest text (of_manifest why)) = (text ≡ path_text p) × IsWrong e why
 FileRefused p e (NotYet key) = (d : Data) × IsManifest e d × (project_later d ≡ Some key)
 FileRefused p e s = ⊥
 
@@ -78,39 +78,39 @@ apart x h = cc h
 
 file_once : (p : Path) (e : Option Entry) (s v : Status) → FileRefused p e s → FileRefused p e v → s ≡ v
 file_once p e (Limit Text n) (Limit Text m) h k = ap (Limit Text) (h.1.2 ∙ ap length (same_file e h.1.0 k.1.0 h.1.1 k.1.1) ∙ sym k.1.2)
-file_once p e (Limit Text n) (BadManifest u Missing) h k = absurd (k.1 h.1.0 h.1.1)
-file_once p e (Limit Text n) (BadManifest u NotJson) h k = absurd (too_long e n k.1.0 h.0 h.1 k.1.1)
-file_once p e (Limit Text n) (BadManifest u (BadField f g)) h k = absurd (too_long e n k.1.0 h.0 h.1 k.1.2)
+file_once p e (Limit Text n) (BadManifest u (of_manifest Missing)) h k = absurd (k.1 h.1.0 h.1.1)
+file_once p e (Limit Text n) (BadManifest u (of_manifest NotJson)) h k = absurd (too_long e n k.1.0 h.0 h.1 k.1.1)
+file_once p e (Limit Text n) (BadManifest u (of_manifest (BadField f g))) h k = absurd (too_long e n k.1.0 h.0 h.1 k.1.2)
 file_once p e (Limit Text n) (NotYet key) h k = absurd (too_long e n k.1.bytes h.0 h.1 k.1.stands)
 file_once p e (Limit Text n) v h k = absurd k
-file_once p e (BadManifest t Missing) (Limit Text n) h k = absurd (h.1 k.1.0 k.1.1)
-file_once p e (BadManifest t Missing) (BadManifest u Missing) h k = ap (λ (l : List ℕ). BadManifest l Missing) (h.0 ∙ sym k.0)
-file_once p e (BadManifest t Missing) (BadManifest u NotJson) h k = absurd (h.1 k.1.0 k.1.1.is)
-file_once p e (BadManifest t Missing) (BadManifest u (BadField f g)) h k = absurd (h.1 k.1.0 k.1.2.is)
-file_once p e (BadManifest t Missing) (NotYet key) h k = absurd (h.1 k.1.bytes k.1.stands.is)
-file_once p e (BadManifest t Missing) v h k = absurd k
-file_once p e (BadManifest t NotJson) (Limit Text n) h k = absurd (too_long e n h.1.0 k.0 k.1 h.1.1)
-file_once p e (BadManifest t NotJson) (BadManifest u Missing) h k = absurd (k.1 h.1.0 h.1.1.is)
-file_once p e (BadManifest t NotJson) (BadManifest u NotJson) h k = ap (λ (l : List ℕ). BadManifest l NotJson) (h.0 ∙ sym k.0)
-file_once p e (BadManifest t NotJson) (BadManifest u (BadField f g)) h k = absurd (no_value e h.1.0 k.1.0 k.1.1 h.1.1 k.1.2 h.1.2 k.1.3)
-file_once p e (BadManifest t NotJson) (NotYet key) h k = absurd (no_value e h.1.0 k.1.bytes k.0 h.1.1 k.1.stands h.1.2 k.1.text)
-file_once p e (BadManifest t NotJson) v h k = absurd k
-file_once p e (BadManifest t (BadField a b)) (Limit Text n) h k = absurd (too_long e n h.1.0 k.0 k.1 h.1.2)
-file_once p e (BadManifest t (BadField a b)) (BadManifest u Missing) h k = absurd (k.1 h.1.0 h.1.2.is)
-file_once p e (BadManifest t (BadField a b)) (BadManifest u NotJson) h k = absurd (no_value e k.1.0 h.1.0 h.1.1 k.1.1 h.1.2 k.1.2 h.1.3)
-file_once p e (BadManifest t (BadField a b)) (BadManifest u (BadField f g)) h k =
+file_once p e (BadManifest t (of_manifest Missing)) (Limit Text n) h k = absurd (h.1 k.1.0 k.1.1)
+file_once p e (BadManifest t (of_manifest Missing)) (BadManifest u (of_manifest Missing)) h k = ap (λ (l : List ℕ). BadManifest l (of_manifest Missing)) (h.0 ∙ sym k.0)
+file_once p e (BadManifest t (of_manifest Missing)) (BadManifest u (of_manifest NotJson)) h k = absurd (h.1 k.1.0 k.1.1.is)
+file_once p e (BadManifest t (of_manifest Missing)) (BadManifest u (of_manifest (BadField f g))) h k = absurd (h.1 k.1.0 k.1.2.is)
+file_once p e (BadManifest t (of_manifest Missing)) (NotYet key) h k = absurd (h.1 k.1.bytes k.1.stands.is)
+file_once p e (BadManifest t (of_manifest Missing)) v h k = absurd k
+file_once p e (BadManifest t (of_manifest NotJson)) (Limit Text n) h k = absurd (too_long e n h.1.0 k.0 k.1 h.1.1)
+file_once p e (BadManifest t (of_manifest NotJson)) (BadManifest u (of_manifest Missing)) h k = absurd (k.1 h.1.0 h.1.1.is)
+file_once p e (BadManifest t (of_manifest NotJson)) (BadManifest u (of_manifest NotJson)) h k = ap (λ (l : List ℕ). BadManifest l (of_manifest NotJson)) (h.0 ∙ sym k.0)
+file_once p e (BadManifest t (of_manifest NotJson)) (BadManifest u (of_manifest (BadField f g))) h k = absurd (no_value e h.1.0 k.1.0 k.1.1 h.1.1 k.1.2 h.1.2 k.1.3)
+file_once p e (BadManifest t (of_manifest NotJson)) (NotYet key) h k = absurd (no_value e h.1.0 k.1.bytes k.0 h.1.1 k.1.stands h.1.2 k.1.text)
+file_once p e (BadManifest t (of_manifest NotJson)) v h k = absurd k
+file_once p e (BadManifest t (of_manifest (BadField a b))) (Limit Text n) h k = absurd (too_long e n h.1.0 k.0 k.1 h.1.2)
+file_once p e (BadManifest t (of_manifest (BadField a b))) (BadManifest u (of_manifest Missing)) h k = absurd (k.1 h.1.0 h.1.2.is)
+file_once p e (BadManifest t (of_manifest (BadField a b))) (BadManifest u (of_manifest NotJson)) h k = absurd (no_value e k.1.0 h.1.0 h.1.1 k.1.1 h.1.2 k.1.2 h.1.3)
+file_once p e (BadManifest t (of_manifest (BadField a b))) (BadManifest u (of_manifest (BadField f g))) h k =
     let one = one_value e h.1.0 k.1.0 h.1.1 k.1.1 h.1.2 k.1.2 h.1.3 k.1.3 in
     let spot : (a, b) ≡ (f, g) = same_Some (a, b) (f, g) (sym h.1.4 ∙ ap first_wrong one ∙ k.1.4) in
     let text : t ≡ u = h.0 ∙ sym k.0 in
-    λ i. BadManifest (text i) (BadField (spot i).0 (spot i).1)
-file_once p e (BadManifest t (BadField a b)) (NotYet key) h k =
+    λ i. BadManifest (text i) (of_manifest (BadField (spot i).0 (spot i).1))
+file_once p e (BadManifest t (of_manifest (BadField a b))) (NotYet key) h k =
     let one = one_value e h.1.0 k.1.bytes h.1.1 k.0 h.1.2 k.1.stands h.1.3 k.1.text in
     absurd (apart (a, b) (sym h.1.4 ∙ ap first_wrong one ∙ k.1.right))
-file_once p e (BadManifest t (BadField a b)) v h k = absurd k
+file_once p e (BadManifest t (of_manifest (BadField a b))) v h k = absurd k
 file_once p e (NotYet key) (Limit Text n) h k = absurd (too_long e n h.1.bytes k.0 k.1 h.1.stands)
-file_once p e (NotYet key) (BadManifest u Missing) h k = absurd (k.1 h.1.bytes h.1.stands.is)
-file_once p e (NotYet key) (BadManifest u NotJson) h k = absurd (no_value e k.1.0 h.1.bytes h.0 k.1.1 h.1.stands k.1.2 h.1.text)
-file_once p e (NotYet key) (BadManifest u (BadField f g)) h k =
+file_once p e (NotYet key) (BadManifest u (of_manifest Missing)) h k = absurd (k.1 h.1.bytes h.1.stands.is)
+file_once p e (NotYet key) (BadManifest u (of_manifest NotJson)) h k = absurd (no_value e k.1.0 h.1.bytes h.0 k.1.1 h.1.stands k.1.2 h.1.text)
+file_once p e (NotYet key) (BadManifest u (of_manifest (BadField f g))) h k =
     let one = one_value e h.1.bytes k.1.0 h.0 k.1.1 h.1.stands k.1.2 h.1.text k.1.3 in
     absurd (apart (f, g) (sym k.1.4 ∙ ap first_wrong (sym one) ∙ h.1.right))
 file_once p e (NotYet key) (NotYet other) h k =
@@ -122,7 +122,7 @@ file_once p e s v h k = absurd h
 manifest_as : (t r : Tree) (p : Path) (s : Status) → IsOwn s → NoManifest p (told t r) s → ((PATH_LIMIT < length (path_text p)) × (s ≡ Limit PathLength (length (path_text p)))) ⊎ ((length (path_text p) ≤ PATH_LIMIT) × FileRefused p (t p) s)
 manifest_as t r p (Limit PathLength n) o h = inl (omega (arith, h.0, h.1), ap (Limit PathLength) h.0)
 manifest_as t r p (Limit Text n) o h = inr (h.0, (h.1, h.2))
-manifest_as t r p (BadManifest text why) o h = inr (h.0, (h.1, h.2))
+manifest_as t r p (BadManifest text (of_manifest why)) o h = inr (h.0, (h.1, h.2))
 manifest_as t r p (NotYet key) o h = inr h
 manifest_as t r p ProjectFault o h = absurd o
 manifest_as t r p s o h = absurd h
@@ -137,22 +137,22 @@ manifest_once t r p s v h k o u = one (manifest_as t r p s o h) (manifest_as t r
     one (inr a) (inl b) = absurd (omega (arith, a.0, b.0))
     one (inr a) (inr b) = file_once p (t p) s v a.1 b.1
 
-reach_shown : (own : List Pair) (w : Shown) (s : Status) → IsOwn s → Unreached own w s → (fault : ReachFault) × (s ≡ reach_status fault) × IsStopped own w.trees.registry fault
-reach_shown own w RegistryFault o h = absurd o
-reach_shown own w s o h = h
+graph_shown : (m : Said) (w : Shown) (s : Status) → IsOwn s → HasNoGraph m w s → (fault : ChoiceFault) × (s ≡ choice_status fault) × Unplain (inputs_of m) w.trees.registry fault
+graph_shown m w RegistryFault o h = absurd o
+graph_shown m w s o h = h
 
-pub reached_once : (t r : Tree) (own : List Pair) (s v : Status) → Unreached own (told t r) s → Unreached own (told t r) v → IsOwn s → IsOwn v → s ≡ v
-reached_once t r own s v h k o u =
-    let a = reach_shown own (told t r) s o h in
-    let b = reach_shown own (told t r) v u k in
-    a.1 ∙ ap reach_status (reached_cause r own a.0 b.0 a.2 b.2) ∙ sym b.1
+pub graph_once : (t r : Tree) (m : Said) (s v : Status) → HasNoGraph m (told t r) s → HasNoGraph m (told t r) v → IsOwn s → IsOwn v → s ≡ v
+graph_once t r m s v h k o u =
+    let a = graph_shown m (told t r) s o h in
+    let b = graph_shown m (told t r) v u k in
+    a.1 ∙ ap choice_status (graph_cause r (inputs_of m) a.0 b.0 a.2 b.2) ∙ sym b.1
 
-list_shown : (met : List Found) (w : Shown) (s : Status) → IsOwn s → Unlisted met w s → (fault : CollectFault) × (s ≡ collect_status fault) × IsFirstRefused met w.trees.registry fault
-list_shown met w RegistryFault o h = absurd o
-list_shown met w s o h = h
+list_shown : (plain : Plain) (w : Shown) (s : Status) → IsOwn s → Unlisted plain w s → (fault : CollectFault) × (s ≡ collect_status fault) × IsFirstRefused plain w.trees.registry fault
+list_shown plain w RegistryFault o h = absurd o
+list_shown plain w s o h = h
 
-pub listed_once : (t r : Tree) (own : List Pair) (met : List Found) (s v : Status) → IsTree r → IsReached (Some r) own met → Unlisted met (told t r) s → Unlisted met (told t r) v → IsOwn s → IsOwn v → s ≡ v
-listed_once t r own met s v tree reached h k o u =
-    let a = list_shown met (told t r) s o h in
-    let b = list_shown met (told t r) v u k in
-    a.1 ∙ ap collect_status (listed_cause r own met a.0 b.0 tree reached a.2 b.2) ∙ sym b.1
+pub listed_once : (t r : Tree) (plain : Plain) (s v : Status) → IsTree r → Unlisted plain (told t r) s → Unlisted plain (told t r) v → IsOwn s → IsOwn v → s ≡ v
+listed_once t r plain s v tree h k o u =
+    let a = list_shown plain (told t r) s o h in
+    let b = list_shown plain (told t r) v u k in
+    a.1 ∙ ap collect_status (listed_cause r plain a.0 b.0 tree a.2 b.2) ∙ sym b.1

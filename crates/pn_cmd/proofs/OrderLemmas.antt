@@ -7,21 +7,22 @@ use Rattle.pn_fs.specs.Tree.{Tree}
 use Rattle.pn_fs.proofs.SeenLemmas.{file_once}
 use Rattle.pn_manifest.specs.Text.{IsObjectText}
 use Rattle.pn_manifest.specs.Fields.{first_wrong}
-use Rattle.pn_choice.specs.Walked.{IsReached}
-use Rattle.pn_choice.specs.Refusals.{IsStopped}
-use Rattle.pn_choice.proofs.Settled.{passed as reached_passed}
+use Rattle.pn_choice.specs.Graphs.{IsGraphOf}
+use Rattle.pn_choice.specs.Refusals.{Unplain}
+use Rattle.pn_choice.proofs.SettledLemmas.{passed as graph_passed}
 use Rattle.pn_collect.specs.Packages.{ArePackages}
 use Rattle.pn_collect.specs.CollectFaults.{IsFirstRefused}
 use Rattle.pn_collect.proofs.Passed.{passed as listed_passed}
 use Rattle.pn_manifest.specs.declared.fault.ManifestWhy.TheVariants.{Missing, NotJson, BadField}
 use Rattle.pn_cmd.specs.declared.status.Which.TheVariants.{Text, Path as PathLength}
+use Rattle.pn_cmd.specs.declared.status.FileWhy.TheVariants.{Manifest as of_manifest}
 use Rattle.pn_cmd.specs.declared.status.Status.{Status}
 use Rattle.pn_cmd.specs.declared.status.Status.TheVariants.{Usage, Manifest as BadManifest, Limit, ProjectFault, RegistryFault, NotYet}
 use Rattle.pn_cmd.specs.Points.{IsFree, Excludes}
 use Rattle.pn_cmd.specs.Words.{words}
 use Rattle.pn_cmd.specs.Standing.{standing}
 use Rattle.pn_cmd.specs.Manifests.{NoManifest, IsProjectManifest, manifest, project_later}
-use Rattle.pn_cmd.specs.Graph.{reached}
+use Rattle.pn_cmd.specs.Graph.{graph, inputs_of, root}
 use Rattle.pn_cmd.specs.Packages.{listed}
 use Rattle.pn_cmd.specs.Plans.{planned}
 use Rattle.pn_cmd.specs.Laws.{AreTold, OrderLaw}
@@ -48,11 +49,11 @@ manifest_at t registry p d (Limit PathLength n) ok h = absurd (omega (arith, ok.
 manifest_at t registry p d (Limit Text n) ok h =
     let m = ok.read in
     absurd (omega (arith, m.stands.short, ap length (file_once (t p) m.bytes h.2.0 m.stands.is h.2.1), h.2.2, h.1))
-manifest_at t registry p d (BadManifest text Missing) ok h = absurd (h.2 ok.read.bytes ok.read.stands.is)
-manifest_at t registry p d (BadManifest text NotJson) ok h =
+manifest_at t registry p d (BadManifest text (of_manifest Missing)) ok h = absurd (h.2 ok.read.bytes ok.read.stands.is)
+manifest_at t registry p d (BadManifest text (of_manifest NotJson)) ok h =
     let m = ok.read in
     absurd (h.2.2 d (subst (λ b. IsObjectText b d) (file_once (t p) m.bytes h.2.0 m.stands.is h.2.1.is) m.text))
-manifest_at t registry p d (BadManifest text (BadField f k)) ok h =
+manifest_at t registry p d (BadManifest text (of_manifest (BadField f k))) ok h =
     let m = ok.read in
     let one = same_data m.bytes h.2.0 d h.2.1 (file_once (t p) m.bytes h.2.0 m.stands.is h.2.2.is) m.text h.2.3 in
     let clash : first_wrong h.2.1 ≡ None = subst (λ e. first_wrong e ≡ None) one m.right in
@@ -70,15 +71,15 @@ manifest_law p w own s told ok h =
     manifest_at told.tree w.trees.registry p ok.value s (subst (λ (o : Option Tree). IsProjectManifest o p ok.value) told.project ok.manifest)
     (subst (λ (o : Option Tree). NoManifest p (record { trees = record { project = o; registry = w.trees.registry } }) s) told.project h)
 
-reached_law : Excludes reached AreTold
-reached_law own w met RegistryFault told ok h = tt
-reached_law own w met s told ok h =
-    absurd (reached_passed told.packages own met h.0 (subst (λ (o : Option Tree). IsReached o own met) told.registry ok) (subst (λ (o : Option Tree). IsStopped own o h.0) told.registry h.2))
+graph_law : Excludes graph AreTold
+graph_law m w plain RegistryFault told ok h = tt
+graph_law m w plain s told ok h =
+    absurd (graph_passed told.packages (inputs_of m) root plain h.0 (subst (λ (o : Option Tree). IsGraphOf o (inputs_of m) root plain) told.registry ok) (subst (λ (o : Option Tree). Unplain (inputs_of m) o h.0) told.registry h.2))
 
 listed_law : Excludes listed AreTold
 listed_law k w packages RegistryFault told ok h = tt
 listed_law k w packages s told ok h =
-    absurd (listed_passed told.packages k.project.own k.met packages h.0 (subst (λ (o : Option Tree). ArePackages o k.project.own k.met packages) told.registry ok) (subst (λ (o : Option Tree). IsFirstRefused k.met o h.0) told.registry h.2))
+    absurd (listed_passed told.packages k.plain packages h.0 (subst (λ (o : Option Tree). ArePackages o k.plain packages) told.registry ok) (subst (λ (o : Option Tree). IsFirstRefused k.plain o h.0) told.registry h.2))
 
 -- a tree with nothing in it, since the build's paths are the same whatever the registry has
 nothing : Tree
@@ -91,4 +92,4 @@ planned_law k w plan (Limit PathLength n) told ok h =
 planned_law k w plan s told ok h = absurd h
 
 pub order_law : OrderLaw
-order_law = record { words = words_law; standing = stands_law; manifest = manifest_law; reached = reached_law; listed = listed_law; planned = planned_law }
+order_law = record { words = words_law; standing = stands_law; manifest = manifest_law; graph = graph_law; listed = listed_law; planned = planned_law }

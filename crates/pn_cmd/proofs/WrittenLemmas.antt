@@ -4,7 +4,9 @@ use Rattle.std.specs.Prelude.{IfSome}
 use Rattle.pn_text.specs.Path.{Path}
 use Rattle.pn_fs.specs.Tree.{folder, Tree, IsTree}
 use Rattle.pn_node.specs.Plan.{IsBuilt}
-use Rattle.pn_manifest.specs.Pairs.{Pair}
+use Rattle.pn_manifest.specs.Said.{Said}
+use Rattle.pn_graph.specs.declared.plain.Plain.{Plain}
+use Rattle.pn_layout.specs.Links.{Pair}
 use Rattle.pn_plan.specs.declared.planned.Planned.{Planned}
 use Rattle.pn_plan.specs.declared.planned.What.{What}
 use Rattle.pn_plan.specs.declared.planned.What.TheVariants.{Folder, Bytes, Copied, Link}
@@ -17,7 +19,7 @@ use Rattle.pn_layout.specs.Sound.{FilesStand}
 use Rattle.pn_layout.specs.Layout.{plan_of}
 use Rattle.pn_layout.proofs.Builds.{built}
 use Rattle.pn_layout.proofs.Within.{is_within_at}
-use Rattle.pn_collect.specs.Outline.{HaveFiles}
+use Rattle.pn_collect.specs.Outline.{HaveFiles, direct_of}
 use Rattle.pn_cmd.specs.Names.{modules_path}
 use Rattle.pn_cmd.specs.Plans.{IsPlan}
 use Rattle.pn_cmd.specs.Lookup.{LooksUp}
@@ -40,7 +42,7 @@ copied_is (Copied c) r place own packages plan q is files h =
     let from = is.closed.copied q c h in
     let its = files from.0 from.2 in
     let stands = its.stand from.1 from.3 in
-    subst (λ p. CanCopy r (Copied p)) (sym from.4) (record { bytes = stands.0; stands = stands.1; short = its.short from.1 stands.0 stands.1 })
+    subst (λ p. CanCopy r (Copied p)) (sym from.4) (record { bytes = stands.0; stands = stands.1; short = its.short from.1 stands.0 from.3 stands.1 })
 
 -- what is copied stands in the registry
 pub can_copy : (r : Tree) (place : Path) (own : List Pair) (packages : List Package) (plan : List Planned) → IsPlan place own packages plan → HaveFiles r packages → IsCopyable r plan
@@ -62,13 +64,14 @@ pub only_below : (place : Path) (own : List Pair) (packages : List Package) (pla
 only_below place own packages plan old new is h t told = let u = h t told in (u.0, u.1, λ q out. u.2 q (outside place own packages plan q is out))
 
 -- What is written is installed. The lookup follows from the build, for each tree that has it.
-pub installs : (registry : Option Tree) (place : Path) (own : List Pair) (packages : List Package) (plan : List Planned) (old new : Option Tree) → IsPlan place own packages plan → IfSome registry (λ r. FilesStand r packages)
-    → ((t : Tree) → old ≡ Some t → IsTree t) → ((u : Tree) → new ≡ Some u → IsTree u) → ((r u : Tree) → registry ≡ Some r → IsTree u → IsBuilt u (plan_of r (modules_path place) own packages) → LooksUp r u place own)
-    → IfSome old (λ t. t (modules_path place) ≡ None) → Writes registry plan old new → Installs registry place own packages old new
-installs registry place own packages plan None new is stand tree after looks absent h = h
-installs None place own packages plan (Some t) new is stand tree after looks absent h =
-    (h.0, h.1, record { tree = after h.0 h.1; built = tt; lookup = tt; others = λ q out. h.2.others q (outside place own packages plan q is out) })
-installs (Some r) place own packages plan (Some t) new is stand tree after looks absent h =
+pub installs : (registry : Option Tree) (place : Path) (m : Said) (plain : Plain) (packages : List Package) (plan : List Planned) (old new : Option Tree) → IsPlan place (direct_of plain) packages plan → IfSome registry (λ r. FilesStand r packages)
+    → ((t : Tree) → old ≡ Some t → IsTree t) → ((u : Tree) → new ≡ Some u → IsTree u) → ((r u : Tree) → registry ≡ Some r → IsTree u → IsBuilt u (plan_of r (modules_path place) (direct_of plain) packages) → LooksUp r u place m)
+    → IfSome old (λ t. t (modules_path place) ≡ None) → Writes registry plan old new → Installs registry place m plain packages old new
+installs registry place m plain packages plan None new is stand tree after looks absent h = h
+installs None place m plain packages plan (Some t) new is stand tree after looks absent h =
+    (h.0, h.1, record { tree = after h.0 h.1; built = tt; lookup = tt; others = λ q out. h.2.others q (outside place (direct_of plain) packages plan q is out) })
+installs (Some r) place m plain packages plan (Some t) new is stand tree after looks absent h =
+    let own = direct_of plain in
     let top = modules_path place in
     let none = λ (q : Path). none_within t (tree t refl) top (q ++ top) absent (is_within_at q top) in
     let all : IsBuilt h.0 (plan_of r top own packages) = (built r top own packages plan t h.0 (is.build r stand) h.2 none).built in (

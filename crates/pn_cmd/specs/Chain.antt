@@ -9,7 +9,7 @@ use Rattle.pn_cmd.specs.Known.{Project, Graph, Sources, Build, project_of}
 use Rattle.pn_cmd.specs.Words.{words}
 use Rattle.pn_cmd.specs.Standing.{standing}
 use Rattle.pn_cmd.specs.Manifests.{manifest}
-use Rattle.pn_cmd.specs.Graph.{reached}
+use Rattle.pn_cmd.specs.Graph.{graph}
 use Rattle.pn_cmd.specs.Packages.{listed}
 use Rattle.pn_cmd.specs.Plans.{planned}
 
@@ -21,13 +21,13 @@ abbrev pub workspace_at : Point Path Path
 workspace_at = step (λ p. workspace_name ∷ p) (λ p u. p) standing
 
 abbrev pub manifest_at : Point Path Project
-manifest_at = step (λ p. package_name ∷ p) (λ p own. project_of p own) manifest
+manifest_at = step (λ p. package_name ∷ p) (λ p said. project_of p said) manifest
 
 abbrev pub lock_at : Point Project Project
 lock_at = step (λ (k : Project). lock_name ∷ k.place) (λ k u. k) standing
 
-abbrev pub reached_at : Point Project Graph
-reached_at = step (λ (k : Project). k.own) (λ k met. record { project = k; met = met }) reached
+abbrev pub graph_at : Point Project Graph
+graph_at = step (λ (k : Project). k.said) (λ k plain. record { project = k; plain = plain }) graph
 
 abbrev pub modules_at : Point Graph Graph
 modules_at = step (λ (k : Graph). modules_path k.project.place) (λ k u. k) standing
@@ -38,16 +38,16 @@ listed_at = step (λ (k : Graph). k) (λ k packages. record { graph = k; package
 abbrev pub planned_at : Point Sources Build
 planned_at = step (λ (k : Sources). k) (λ k plan. record { sources = k; plan = plan }) planned
 
--- from the packages that are reached on
+-- from the plain graph on
 abbrev pub tree : Point Graph Build
 tree = then modules_at (then listed_at planned_at)
 
 -- from the manifest on
 abbrev pub goal : Point Project Build
-goal = then lock_at (then reached_at tree)
+goal = then lock_at (then graph_at tree)
 
--- All points before anything is written: the words, no `pnpm-workspace.yaml`, the manifest, no `pnpm-lock.yaml`, the packages
--- that are reached, no `node_modules`, their files, and the tree.
+-- All points before anything is written: the words, no `pnpm-workspace.yaml`, the manifest, no `pnpm-lock.yaml`, the plain
+-- graph, no `node_modules`, the files of its packages, and the tree.
 abbrev pub install : Point Inputs Build
 install = then words_at (then workspace_at (then manifest_at goal))
 
@@ -61,11 +61,11 @@ to_manifest = then to_workspace manifest_at
 abbrev pub to_lock : Point Inputs Project
 to_lock = then to_manifest lock_at
 
-abbrev pub to_reached : Point Inputs Graph
-to_reached = then to_lock reached_at
+abbrev pub to_graph : Point Inputs Graph
+to_graph = then to_lock graph_at
 
 abbrev pub to_modules : Point Inputs Graph
-to_modules = then to_reached modules_at
+to_modules = then to_graph modules_at
 
 abbrev pub to_listed : Point Inputs Sources
 to_listed = then to_modules listed_at
@@ -80,7 +80,7 @@ pub data StandsAt (i : Inputs) (w : Shown) (s : Status) : Type 0 where
   at_workspace : After words_at i w.trees (λ k. workspace_at.Cause k w s) → StandsAt i w s
   at_manifest : After to_workspace i w.trees (λ k. manifest_at.Cause k w s) → StandsAt i w s
   at_lock : After to_manifest i w.trees (λ k. lock_at.Cause k w s) → StandsAt i w s
-  at_reached : After to_lock i w.trees (λ k. reached_at.Cause k w s) → StandsAt i w s
-  at_modules : After to_reached i w.trees (λ k. modules_at.Cause k w s) → StandsAt i w s
+  at_graph : After to_lock i w.trees (λ k. graph_at.Cause k w s) → StandsAt i w s
+  at_modules : After to_graph i w.trees (λ k. modules_at.Cause k w s) → StandsAt i w s
   at_listed : After to_modules i w.trees (λ k. listed_at.Cause k w s) → StandsAt i w s
   at_planned : After to_listed i w.trees (λ k. planned_at.Cause k w s) → StandsAt i w s

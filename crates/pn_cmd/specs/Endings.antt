@@ -4,7 +4,9 @@ use Rattle.pn_text.specs.declared.limits.TheConstants.{FILE_LIMIT}
 use Rattle.pn_text.specs.Path.{Path}
 use Rattle.pn_fs.specs.Tree.{Tree, IsTree}
 use Rattle.pn_node.specs.Plan.{IsBuilt}
-use Rattle.pn_manifest.specs.Pairs.{Pair}
+use Rattle.pn_manifest.specs.Said.{Said}
+use Rattle.pn_graph.specs.declared.plain.Plain.{Plain}
+use Rattle.pn_collect.specs.Outline.{direct_of}
 use Rattle.pn_plan.specs.Drawing.{is_within}
 use Rattle.pn_plan.specs.Writes.{DiffersOnly}
 use Rattle.pn_layout.specs.declared.packages.Package.{Package}
@@ -48,19 +50,19 @@ pub record HalfWritten (i : Inputs) (old new : World) : Type 0 where
 
 -- At and below the managed folder the tree has exactly the build, with the registry's bytes, and elsewhere what it had; each
 -- package finds what it depends on.
-pub record IsInstalled (registry : Option Tree) (place : Path) (own : List Pair) (packages : List Package) (t u : Tree) : Type 0 where
+pub record IsInstalled (registry : Option Tree) (place : Path) (said : Said) (plain : Plain) (packages : List Package) (t u : Tree) : Type 0 where
   pub tree : IsTree u
-  pub built : IfSome registry (λ r. IsBuilt u (plan_of r (modules_path place) own packages))
-  pub lookup : IfSome registry (λ r. LooksUp r u place own)
+  pub built : IfSome registry (λ r. IsBuilt u (plan_of r (modules_path place) (direct_of plain) packages))
+  pub lookup : IfSome registry (λ r. LooksUp r u place said)
   pub others : (q : Path) → is_within (modules_path place) q ≡ false → u q ≡ t q
 
 -- a tree that was told is told, and installed
-abbrev pub Installs : Option Tree → Path → List Pair → List Package → Option Tree → Option Tree → Type 0
-Installs registry place own packages old new = MatchOption old (new ≡ None) (λ t. (u : Tree) × (new ≡ Some u) × IsInstalled registry place own packages t u)
+abbrev pub Installs : Option Tree → Path → Said → Plain → List Package → Option Tree → Option Tree → Type 0
+Installs registry place said plain packages old new = MatchOption old (new ≡ None) (λ t. (u : Tree) × (new ≡ Some u) × IsInstalled registry place said plain packages t u)
 
 -- The project is installed.
 pub record Written (i : Inputs) (b : Build) (old new : World) : Type 0 where
-  pub project : Installs old.registry.tree i.place b.sources.graph.project.own b.sources.packages old.project.tree new.project.tree
+  pub project : Installs old.registry.tree i.place b.sources.graph.project.said b.sources.graph.plain b.sources.packages old.project.tree new.project.tree
   pub registry : new.registry.tree ≡ old.registry.tree
 
 -- What is there when a run is done: the points are passed, the project is installed, and the output took the report.

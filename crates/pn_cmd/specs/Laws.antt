@@ -2,7 +2,7 @@
 use Rattle.std.specs.Prelude.{◌≡◌, ◌∷◌, Some}
 use Rattle.serde_json.specs.Data.{Data}
 use Rattle.pn_fs.specs.Tree.{Tree, IsTree}
-use Rattle.pn_manifest.specs.Fields.{edges_of}
+use Rattle.pn_manifest.specs.Fields.{said}
 use Rattle.pn_cmd.specs.declared.status.Status.{Status}
 use Rattle.pn_cmd.specs.declared.status.Status.TheVariants.{Done, Memory, ProjectFault, RegistryFault, SinkFault}
 use Rattle.pn_cmd.specs.World.{World, Inputs, Shown}
@@ -11,7 +11,7 @@ use Rattle.pn_cmd.specs.Names.{package_name}
 use Rattle.pn_cmd.specs.Words.{words}
 use Rattle.pn_cmd.specs.Standing.{standing}
 use Rattle.pn_cmd.specs.Manifests.{IsManifest, manifest}
-use Rattle.pn_cmd.specs.Graph.{reached}
+use Rattle.pn_cmd.specs.Graph.{graph}
 use Rattle.pn_cmd.specs.Packages.{listed}
 use Rattle.pn_cmd.specs.Plans.{planned}
 use Rattle.pn_cmd.specs.Chain.{install, StandsAt}
@@ -29,7 +29,7 @@ PointLaw = (i : Inputs) (w : Shown) (s : Status) → install.Cause i w s → Sta
 
 -- After an install each package finds what it depends on, and so does the project, where the trees are told.
 abbrev pub LookupLaw : Type 0
-LookupLaw = (i : Inputs) (old new : World) → Ends i old new Done → (r t u : Tree) (d : Data) → old.registry.tree ≡ Some r → old.project.tree ≡ Some t → new.project.tree ≡ Some u → IsManifest (t (package_name ∷ i.place)) d → LooksUp r u i.place (edges_of d)
+LookupLaw = (i : Inputs) (old new : World) → Ends i old new Done → (r t u : Tree) (d : Data) → old.registry.tree ≡ Some r → old.project.tree ≡ Some t → new.project.tree ≡ Some u → IsManifest (t (package_name ∷ i.place)) d → LooksUp r u i.place (said d)
 
 -- the trees are told
 pub record AreTold (w : Shown) : Type 0 where
@@ -43,7 +43,7 @@ pub record OrderLaw : Type 0 where
   pub words : Excludes words AreTold
   pub standing : Excludes standing AreTold
   pub manifest : Excludes manifest AreTold
-  pub reached : Excludes reached AreTold
+  pub graph : Excludes graph AreTold
   pub listed : Excludes listed AreTold
   pub planned : Excludes planned AreTold
 

@@ -1,18 +1,19 @@
 -- The point of the project's manifest.
-use Rattle.std.specs.Prelude.{◌≡◌, ◌<◌, ◌≤◌, ℕ, List, length, Option, Some, None, IfSome, codes, if◌then◌else◌}
+use Rattle.std.specs.Prelude.{◌≡◌, ◌<◌, ◌≤◌, ℕ, List, [], ◌∷◌, length, Option, Some, None, IfSome, codes}
 use Rattle.serde_json.specs.Data.{Data}
 use Rattle.pn_text.specs.declared.limits.TheConstants.{PATH_LIMIT, TEXT_LIMIT}
 use Rattle.pn_text.specs.Path.{Path, path_text}
 use Rattle.pn_fs.specs.Tree.{Entry, file, Tree}
-use Rattle.pn_manifest.specs.Fields.{first_wrong, first_later, has_dev, edges_of}
+use Rattle.pn_manifest.specs.Fields.{first_wrong, said}
+use Rattle.pn_manifest.specs.Said.{Said}
 use Rattle.pn_manifest.specs.Text.{IsObjectText}
-use Rattle.pn_manifest.specs.Pairs.{Pair}
 use Rattle.pn_manifest.specs.Refusals.{WrongBytes}
-use Rattle.pn_manifest.specs.Says.{Says}
+use Rattle.pn_manifest.specs.Says.{said_of}
 use Rattle.pn_manifest.specs.declared.manifest.Manifest.{Manifest}
 use Rattle.pn_read.specs.Small.{IsNoFile, IsFileOf}
 use Rattle.pn_manifest.specs.declared.fault.ManifestWhy.{ManifestWhy}
 use Rattle.pn_manifest.specs.declared.fault.ManifestWhy.TheVariants.{Missing, NotJson, BadField}
+use Rattle.pn_cmd.specs.declared.status.FileWhy.TheVariants.{Manifest as of_manifest}
 use Rattle.pn_cmd.specs.declared.status.Which.TheVariants.{Text, Path as PathLength}
 use Rattle.pn_cmd.specs.declared.status.Status.{Status}
 use Rattle.pn_cmd.specs.declared.status.Status.TheVariants.{Memory, Manifest as BadManifest, Limit, ProjectFault, NotYet}
@@ -36,15 +37,27 @@ IsWrong e Missing = IsNoFile e
 IsWrong e NotJson = (bytes : List ℕ) × IsText e bytes × ((d : Data) → IsObjectText bytes d → ⊥)
 IsWrong e (BadField f k) = (bytes : List ℕ) × (d : Data) × IsText e bytes × IsObjectText bytes d × (first_wrong d ≡ Some (f, k))
 
--- the first field of the project's manifest that stands and isn't read yet
+abbrev pub or_else : {A : Type 0} → Option A → Option A → Option A
+or_else (Some a) o = Some a
+or_else None o = o
+
+abbrev pub if_some : {A : Type 0} → List A → List ℕ → Option (List ℕ)
+if_some [] text = None
+if_some (x ∷ xs) text = Some text
+
+-- the first field that stands and isn't built yet
+abbrev pub unbuilt_field : Said → Option (List ℕ)
+unbuilt_field m = or_else (if_some m.overrides (codes "pnpm.overrides")) (if_some m.peers (codes "peerDependencies"))
+
+-- the first field of the project's manifest that stands and isn't built yet
 abbrev pub project_later : Data → Option (List ℕ)
-project_later d = if has_dev d then Some (codes "devDependencies") else first_later d
+project_later d = unbuilt_field (said d)
 
 -- The path is too long, or the file there is refused. A path that is too long isn't asked for.
 abbrev pub NoManifest : Path → Shown → Status → Type 0
 NoManifest p w (Limit PathLength n) = (n ≡ length (path_text p)) × (PATH_LIMIT < n)
 NoManifest p w (Limit Text n) = (length (path_text p) ≤ PATH_LIMIT) × (TEXT_LIMIT < n) × IfSome w.trees.project (λ t. IsFileOf n (t p))
-NoManifest p w (BadManifest text why) = (length (path_text p) ≤ PATH_LIMIT) × (text ≡ path_text p) × IfSome w.trees.project (λ t. IsWrong (t p) why)
+NoManifest p w (BadManifest text (of_manifest why)) = (length (path_text p) ≤ PATH_LIMIT) × (text ≡ path_text p) × IfSome w.trees.project (λ t. IsWrong (t p) why)
 NoManifest p w (NotYet key) = (length (path_text p) ≤ PATH_LIMIT) × IfSome w.trees.project (λ t. (d : Data) × IsManifest (t p) d × (project_later d ≡ Some key))
 NoManifest p w ProjectFault = length (path_text p) ≤ PATH_LIMIT
 NoManifest p w s = ⊥
@@ -56,21 +69,21 @@ pub record IsProjectManifest (project : Option Tree) (p : Path) (d : Data) : Typ
   pub right : first_wrong d ≡ None
   pub built : project_later d ≡ None
 
--- The manifest there declares these dependencies.
-pub record Declares (project : Option Tree) (p : Path) (own : List Pair) : Type 0 where
+-- The manifest there says this.
+pub record Declares (project : Option Tree) (p : Path) (m : Said) : Type 0 where
   pub value : Data
   pub manifest : IsProjectManifest project p value
-  pub edges : own ≡ edges_of value
+  pub says : m ≡ said value
 
-abbrev pub manifest : Point Path (List Pair)
-manifest = record { Finds = λ p t own. Declares t.project p own; Cause = NoManifest }
+abbrev pub manifest : Point Path Said
+manifest = record { Finds = λ p t m. Declares t.project p m; Cause = NoManifest }
 
 -- the same of the bytes alone
 abbrev pub FoundIn : List ℕ → Manifest → Type 0
-FoundIn bytes m = (d : Data) × IsObjectText bytes d × (first_wrong d ≡ None) × (project_later d ≡ None) × Says d m
+FoundIn bytes m = (d : Data) × IsObjectText bytes d × (first_wrong d ≡ None) × (project_later d ≡ None) × (said_of m ≡ said d)
 
 abbrev pub BytesRefused : Path → List ℕ → Status → Type 0
 BytesRefused p bytes Memory = Unit {0}
-BytesRefused p bytes (BadManifest text why) = (text ≡ path_text p) × WrongBytes bytes why
+BytesRefused p bytes (BadManifest text (of_manifest why)) = (text ≡ path_text p) × WrongBytes bytes why
 BytesRefused p bytes (NotYet key) = (d : Data) × IsObjectText bytes d × (first_wrong d ≡ None) × (project_later d ≡ Some key)
 BytesRefused p bytes s = ⊥

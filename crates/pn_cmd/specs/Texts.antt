@@ -1,16 +1,19 @@
 -- What is told of a status.
-use Rattle.std.specs.Prelude.{◌≡◌, ◌≢◌, ◌⊎◌, ℕ, List, [], ◌++◌, codes}
+use Rattle.std.specs.Prelude.{◌≡◌, ◌≢◌, ◌⊎◌, ℕ, List, [], ◌∷◌, ◌++◌, codes}
 use Rattle.std.specs.Fmt.{decimal}
 use Rattle.pn_text.specs.Causes.{Rose}
 use Rattle.pn_text.specs.declared.ids.Edge.{Edge}
 use Rattle.pn_fs.specs.Seen.{Taken}
 use Rattle.pn_fs.specs.Takes.{told_more}
+use Rattle.pn_text.specs.Path.{Path, text_below}
 use Rattle.pn_manifest.specs.declared.fault.ManifestWhy.{ManifestWhy}
 use Rattle.pn_manifest.specs.declared.fault.ManifestWhy.TheVariants.{Missing, NotJson, BadField}
 use Rattle.pn_cmd.specs.declared.status.Which.{Which}
-use Rattle.pn_cmd.specs.declared.status.Which.TheVariants.{Packages, File, Text, Path, Entries}
+use Rattle.pn_cmd.specs.declared.status.Which.TheVariants.{Packages, File, Text, Path as PathLength, Entries}
+use Rattle.pn_cmd.specs.declared.status.FileWhy.{FileWhy}
+use Rattle.pn_cmd.specs.declared.status.FileWhy.TheVariants.{Manifest as of_manifest, BadTags}
 use Rattle.pn_cmd.specs.declared.status.Status.{Status}
-use Rattle.pn_cmd.specs.declared.status.Status.TheVariants.{Done, Memory, Usage, Manifest, NoVersion, Limit, ProjectFault, RegistryFault, SinkFault, NotYet}
+use Rattle.pn_cmd.specs.declared.status.Status.TheVariants.{Done, Memory, Usage, Manifest, NoVersion, Unsupported, Limit, Bundled, ProjectFault, RegistryFault, SinkFault, NotYet}
 use Rattle.pn_cmd.specs.Reports.{TookSome}
 
 abbrev pub why_text : ManifestWhy → List ℕ
@@ -18,24 +21,39 @@ why_text Missing = codes "missing\n"
 why_text NotJson = codes "not JSON\n"
 why_text (BadField f k) = codes "bad field " ++ f ++ codes " " ++ k ++ codes "\n"
 
+abbrev pub file_text : FileWhy → List ℕ
+file_text (of_manifest why) = why_text why
+file_text BadTags = codes "bad tags\n"
+
 abbrev pub which_text : Which → List ℕ
 which_text Packages = codes "packages "
 which_text File = codes "file "
 which_text Text = codes "text "
-which_text Path = codes "path "
+which_text PathLength = codes "path "
 which_text Entries = codes "entries "
 
-abbrev pub edge_text : Edge → List ℕ
-edge_text e = e.from ++ codes " needs " ++ e.alias ++ codes "@" ++ e.specifier ++ codes "\n"
+-- whose dependency, what is said of it, and the dependency
+abbrev pub edge_text : List ℕ → Edge → List ℕ
+edge_text verb e = e.from ++ verb ++ e.alias ++ codes "@" ++ e.specifier ++ codes "\n"
+
+abbrev pub behind_first : List ℕ → List ℕ
+behind_first [] = []
+behind_first (b ∷ bs) = bs
+
+-- the text of a relative path
+abbrev pub tail_text : Path → List ℕ
+tail_text q = behind_first (text_below q)
 
 -- the line of each refusal
 abbrev pub status_line : Status → List ℕ
 status_line Done = []
 status_line Memory = codes "pnpm-rs: out of memory\n"
 status_line Usage = codes "pnpm-rs: usage: install\n"
-status_line (Manifest path why) = codes "pnpm-rs: manifest: " ++ path ++ codes ": " ++ why_text why
-status_line (NoVersion edge) = codes "pnpm-rs: no version: " ++ edge_text edge
+status_line (Manifest path why) = codes "pnpm-rs: manifest: " ++ path ++ codes ": " ++ file_text why
+status_line (NoVersion edge) = codes "pnpm-rs: no version: " ++ edge_text (codes " needs ") edge
+status_line (Unsupported edge) = codes "pnpm-rs: unsupported: " ++ edge_text (codes " has ") edge
 status_line (Limit which n) = codes "pnpm-rs: limit: " ++ which_text which ++ decimal n ++ codes "\n"
+status_line (Bundled id path) = codes "pnpm-rs: bundled: " ++ id ++ codes " " ++ tail_text path ++ codes "\n"
 status_line ProjectFault = codes "pnpm-rs: project fault\n"
 status_line RegistryFault = codes "pnpm-rs: registry fault\n"
 status_line SinkFault = codes "pnpm-rs: output fault\n"

@@ -1,15 +1,16 @@
 // The points before anything is written.
 ghost use Rattle.std.specs.Prelude.{map, string_bytes, IfOk, IfErr};
 ghost use Rattle.pn_fs.specs.Seen.{Taken, Keeps};
-ghost use Rattle.pn_choice.specs.Edges.{edges_by};
-ghost use Rattle.pn_choice.specs.Walked.{IsReached};
+ghost use Rattle.pn_manifest.specs.Said.{Said, IsRisingSaid};
+ghost use Rattle.pn_manifest.specs.Says.{said_of};
 ghost use Rattle.pn_cmd.specs.World.{inputs, trees, world};
 ghost use Rattle.pn_cmd.specs.Points.{Refuses};
 ghost use Rattle.pn_cmd.specs.Known.{project_of, graph_of};
+ghost use Rattle.pn_collect.specs.Packages.{AreShort, FoldersStand};
 ghost use Rattle.pn_cmd.specs.Chain.{install, goal, tree};
 ghost use Rattle.pn_cmd.specs.Readies.{IsReady, IsGoalReady, IsTreeReady};
 
-use crate::graph::reached;
+use crate::graph::graph;
 use crate::manifest::read_manifest;
 use crate::packages::packages;
 use crate::plan::plan;
@@ -17,8 +18,8 @@ use crate::ready::Ready;
 use crate::standing::nothing_stands;
 use crate::status::Status;
 use crate::words::is_install;
-use pn_choice::Reached;
 use pn_fs::ReadFs;
+use pn_graph::Plain;
 use pn_manifest::Manifest;
 use pn_text::AbsPath;
 use std::alloc::Global;
@@ -46,43 +47,44 @@ pub fn check<P: ReadFs, R: ReadFs>(
         Ok(manifest) => manifest,
         Err(status) => return Err(status),
     };
-    check_goal(alloc, place, &manifest, project, registry)
+    check_goal(alloc, place, manifest, project, registry)
 }
 
 // Goes through the points after the manifest's.
 fn check_goal<P: ReadFs, R: ReadFs>(
     alloc: Global,
     place: &AbsPath,
-    manifest: &Manifest,
+    manifest: Manifest,
     project: &mut P,
     registry: &mut R,
 ) -> Result<Ready, Status>
-    ensures ready { IfOk result (IsGoalReady place.now (edges_by manifest.now) (trees (P.seen project.old) (R.seen registry.old))) }
-    ensures refused { (out : Taken) → IfErr result (Refuses (goal.Cause (project_of place.now (edges_by manifest.now))) (world (P.seen project.old) (R.seen registry.old) out) (world (P.seen project.new) (R.seen registry.new) out)) }
+    requires { IsRisingSaid (said_of manifest) }
+    ensures ready { IfOk result (IsGoalReady place.now (said_of manifest) (trees (P.seen project.old) (R.seen registry.old))) }
+    ensures refused { (out : Taken) → IfErr result (Refuses (goal.Cause (project_of place.now (said_of manifest))) (world (P.seen project.old) (R.seen registry.old) out) (world (P.seen project.new) (R.seen registry.new) out)) }
     ensures project { Keeps (P.seen project.old) (P.seen project.new) }
     ensures registry { Keeps (R.seen registry.old) (R.seen registry.new) }
 {
     if let Err(status) = nothing_stands(alloc, place, "pnpm-lock.yaml", project) {
         return Err(status);
     }
-    match reached(alloc, manifest, registry) {
-        Ok(reached) => check_tree(alloc, place, manifest, reached, project, registry),
+    match graph(alloc, manifest, registry) {
+        Ok(plain) => check_tree(alloc, place, &plain, project, registry),
         Err(status) => Err(status),
     }
 }
 
-// Goes through the points after the packages that are reached.
+// Goes through the points after the plain graph's.
 fn check_tree<P: ReadFs, R: ReadFs>(
     alloc: Global,
     place: &AbsPath,
-    manifest: &Manifest,
-    reached: Reached,
+    plain: &Plain,
     project: &mut P,
     registry: &mut R,
 ) -> Result<Ready, Status>
-    requires { IsReached (R.seen registry.old).tree (edges_by manifest.now) reached }
-    ensures ready { IfOk result (IsTreeReady place.now (edges_by manifest.now) reached (trees (P.seen project.old) (R.seen registry.old))) }
-    ensures refused { (out : Taken) → IfErr result (Refuses (tree.Cause (graph_of place.now (edges_by manifest.now) reached)) (world (P.seen project.old) (R.seen registry.old) out) (world (P.seen project.new) (R.seen registry.new) out)) }
+    requires stand { FoldersStand (R.seen registry.old).tree plain.now }
+    requires short { AreShort plain.now }
+    ensures ready { (said : Said) → IfOk result (IsTreeReady place.now said plain.now (trees (P.seen project.old) (R.seen registry.old))) }
+    ensures refused { (said : Said) (out : Taken) → IfErr result (Refuses (tree.Cause (graph_of place.now said plain.now)) (world (P.seen project.old) (R.seen registry.old) out) (world (P.seen project.new) (R.seen registry.new) out)) }
     ensures project { Keeps (P.seen project.old) (P.seen project.new) }
     ensures registry { Keeps (R.seen registry.old) (R.seen registry.new) }
 {
@@ -90,11 +92,11 @@ fn check_tree<P: ReadFs, R: ReadFs>(
         Ok(modules) => modules,
         Err(status) => return Err(status),
     };
-    let packages = match packages(alloc, manifest, reached, registry) {
+    let packages = match packages(alloc, plain, registry) {
         Ok(packages) => packages,
         Err(status) => return Err(status),
     };
-    match plan(alloc, place, &modules, manifest, packages.as_slice()) {
+    match plan(alloc, place, &modules, plain, packages.as_slice()) {
         Ok(plan) => Ok(Ready { packages, plan }),
         Err(status) => Err(status),
     }

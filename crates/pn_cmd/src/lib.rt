@@ -30,6 +30,6 @@ mod write;
 
 pub use laws::{cause_law, lookup_law, order_law, point_law, settled_law};
 pub use pn_manifest::ManifestWhy;
-pub use status::{Status, Which};
+pub use status::{FileWhy, Status, Which};
 pub use text::tell;
 pub use top::run;

@@ -1,17 +1,18 @@
 // The point of the project's manifest.
-ghost use Rattle.std.specs.Prelude.{◌≡◌, ◌≤◌, ◌∷◌, ℕ, List, length, IfOk, IfErr, IfSome};
+ghost use Rattle.std.specs.Prelude.{◌≡◌, ◌⊎◌, ◌≤◌, ◌∷◌, ℕ, List, length, IfOk, IfErr, IfSome, option_map};
 ghost use Rattle.pn_text.specs.declared.limits.TheConstants.{PATH_LIMIT};
 ghost use Rattle.pn_text.specs.Path.{path_text};
 ghost use Rattle.pn_fs.specs.Seen.{Seen, Taken, Keeps};
 ghost use Rattle.pn_manifest.specs.Refusals.{ManifestRefused};
+ghost use Rattle.pn_manifest.specs.Said.{IsRisingSaid};
+ghost use Rattle.pn_manifest.specs.Says.{said_of};
 ghost use Rattle.pn_cmd.specs.Names.{package_name};
-ghost use Rattle.pn_choice.specs.Edges.{edges_by};
 ghost use Rattle.pn_cmd.specs.World.{world};
 ghost use Rattle.pn_cmd.specs.Points.{Refuses};
-ghost use Rattle.pn_cmd.specs.Manifests.{NoManifest, Declares, IsText, FoundIn, BytesRefused};
+ghost use Rattle.pn_cmd.specs.Manifests.{NoManifest, Declares, IsText, FoundIn, BytesRefused, unbuilt_field};
 
 use crate::entry::{EntryFault, entry};
-use crate::status::{Status, Which};
+use crate::status::{FileWhy, Status, Which};
 use pn_fs::ReadFs;
 use pn_manifest::{Manifest, ManifestFault, ManifestWhy};
 use pn_read::{SmallFault, read_small};
@@ -24,7 +25,8 @@ pub fn read_manifest<P: ReadFs>(
     folder: &AbsPath,
     project: &mut P,
 ) -> Result<Manifest, Status>
-    ensures found { IfOk result (λ m. Declares (P.seen project.old).tree (package_name ∷ folder.now) (edges_by m)) }
+    ensures found { IfOk result (λ m. Declares (P.seen project.old).tree (package_name ∷ folder.now) (said_of m)) }
+    ensures rising { IfOk result (λ m. IsRisingSaid (said_of m)) }
     ensures refused { (registry : Seen) (out : Taken) → IfErr result (Refuses (NoManifest (package_name ∷ folder.now)) (world (P.seen project.old) registry out) (world (P.seen project.new) registry out)) }
     ensures kept { Keeps (P.seen project.old) (P.seen project.new) }
 {
@@ -51,7 +53,7 @@ fn read_text<P: ReadFs>(alloc: Global, path: &AbsPath, project: &mut P) -> Resul
         Ok(bytes) => Ok(bytes),
         Err(SmallFault::Missing) => {
             let text = Text::of(alloc, path.as_str())?;
-            Err(Status::Manifest(text, ManifestWhy::Missing))
+            Err(Status::Manifest(text, FileWhy::Manifest(ManifestWhy::Missing)))
         }
         Err(SmallFault::TooLarge(length)) => Err(Status::Limit(Which::Text, length)),
         Err(SmallFault::Fault) => Err(Status::ProjectFault),
@@ -62,23 +64,40 @@ fn read_text<P: ReadFs>(alloc: Global, path: &AbsPath, project: &mut P) -> Resul
 // The manifest that the bytes say.
 fn parse(alloc: Global, path: &AbsPath, bytes: &[u8]) -> Result<Manifest, Status>
     ensures found { IfOk result (FoundIn bytes.now) }
+    ensures rising { IfOk result (λ m. IsRisingSaid (said_of m)) }
     ensures refused { IfErr result (BytesRefused path.now bytes.now) }
 {
     let manifest = match Manifest::read(alloc, bytes) {
         Ok(manifest) => manifest,
         Err(fault) => return Err(refusal(alloc, path, fault)),
     };
-    if manifest.dev {
-        let key = Text::of(alloc, "devDependencies")?;
-        return Err(Status::NotYet(key));
-    }
-    match &manifest.later {
-        Some(key) => {
-            let key = key.copy(alloc)?;
-            Err(Status::NotYet(key))
-        }
+    match unbuilt_field(&manifest) {
+        Some(field) => Err(not_yet(alloc, field)),
         None => Ok(manifest),
     }
+}
+
+// The status for a field that isn't built yet.
+fn not_yet(alloc: Global, field: &str) -> Status
+    ensures { (result ≡ Status.NotYet field.now) ⊎ (result ≡ Status.Memory) }
+{
+    match Text::of(alloc, field) {
+        Ok(text) => Status::NotYet(text),
+        Err(_) => Status::Memory,
+    }
+}
+
+// The first field that stands and isn't built yet.
+fn unbuilt_field(manifest: &Manifest) -> Option<&str>
+    ensures { option_map (λ t. t.now) result ≡ unbuilt_field (said_of manifest.now) }
+{
+    if !manifest.overrides.is_empty() {
+        return Some("pnpm.overrides");
+    }
+    if !manifest.peers.is_empty() {
+        return Some("peerDependencies");
+    }
+    None
 }
 
 // The status for a refused manifest.
@@ -90,7 +109,7 @@ fn refusal(alloc: Global, path: &AbsPath, fault: ManifestFault) -> Status
         ManifestFault::Memory => return Status::Memory,
     };
     match Text::of(alloc, path.as_str()) {
-        Ok(text) => Status::Manifest(text, why),
+        Ok(text) => Status::Manifest(text, FileWhy::Manifest(why)),
         Err(_) => Status::Memory,
     }
 }

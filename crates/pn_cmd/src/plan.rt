@@ -1,8 +1,8 @@
 // What is written, and what is reported of it.
-ghost use Rattle.std.specs.Prelude.{◌≡◌, ◌∷◌, List, IfOk, IfErr, string_bytes};
-ghost use Rattle.pn_layout.specs.Sound.{AreSound, AreSoundDependencies};
-ghost use Rattle.pn_choice.specs.Edges.{edges_by};
-ghost use Rattle.pn_choice.specs.declared.package.Package.{Package as Found};
+ghost use Rattle.std.specs.Prelude.{◌≡◌, ◌∷◌, IfOk, IfErr, string_bytes};
+ghost use Rattle.pn_manifest.specs.Said.{Said};
+ghost use Rattle.pn_layout.specs.Sound.{AreSound, AreSoundLinks};
+ghost use Rattle.pn_collect.specs.Outline.{direct_of};
 ghost use Rattle.pn_cmd.specs.World.{World};
 ghost use Rattle.pn_cmd.specs.Points.{Refuses};
 ghost use Rattle.pn_cmd.specs.Names.{modules_path};
@@ -11,8 +11,9 @@ ghost use Rattle.pn_cmd.specs.Plans.{TooLong, IsPlanned};
 ghost use Rattle.pn_cmd.specs.Reports.{report_of};
 
 use crate::status::{Status, Which};
+use pn_collect::direct;
+use pn_graph::Plain;
 use pn_layout::{LayoutFault, Package, layout};
-use pn_manifest::Manifest;
 use pn_plan::PlannedTree;
 use pn_text::AbsPath;
 use std::alloc::{AllocError, Global};
@@ -22,16 +23,16 @@ pub fn plan(
     alloc: Global,
     place: &AbsPath,
     modules: &AbsPath,
-    manifest: &Manifest,
+    plain: &Plain,
     packages: &[Package],
 ) -> Result<PlannedTree, Status>
     requires modules { modules.now ≡ modules_path place.now }
-    requires direct { AreSoundDependencies (edges_by manifest.now) }
+    requires direct { AreSoundLinks (direct_of plain.now) }
     requires sound { AreSound packages.now }
-    ensures planned { (met : List Found) → IfOk result (IsPlanned (sources_of place.now (edges_by manifest.now) met packages.now)) }
-    ensures refused { (met : List Found) (w : World) → IfErr result (Refuses (TooLong (sources_of place.now (edges_by manifest.now) met packages.now)) w w) }
+    ensures planned { (said : Said) → IfOk result (IsPlanned (sources_of place.now said plain.now packages.now)) }
+    ensures refused { (said : Said) (w : World) → IfErr result (Refuses (TooLong (sources_of place.now said plain.now packages.now)) w w) }
 {
-    let direct = match manifest.edges(alloc) {
+    let direct = match direct(alloc, plain) {
         Ok(direct) => direct,
         Err(_) => return Err(Status::Memory),
     };

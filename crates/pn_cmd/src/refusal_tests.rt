@@ -8,7 +8,7 @@ use std::test::Fail;
 const LEAF: &str = r#"/a/1.0.0/package.json {"name":"a","version":"1.0.0"}"#;
 
 // What is refused: the words, the project's files and the registry's, and then the exit status and the text.
-const REFUSALS: [(&str, &str, &str, u8, &str); 19] = [
+const REFUSALS: [(&str, &str, &str, u8, &str); 23] = [
     ("", PROJECT, LEAF, 2, "usage: install"),
     ("update", PROJECT, LEAF, 2, "usage: install"),
     ("install --foo", PROJECT, LEAF, 2, "usage: install"),
@@ -37,8 +37,36 @@ const REFUSALS: [(&str, &str, &str, u8, &str); 19] = [
         "install",
         r#"/w/package.json {"dependencies":{"x":"^1.0.0"}}"#,
         "",
+        6,
+        "no version: . needs x@^1.0.0",
+    ),
+    (
+        "install",
+        r#"/w/package.json {"dependencies":{"a":"git+ssh://h/r"}}"#,
+        LEAF,
+        7,
+        "unsupported: . has a@git+ssh://h/r",
+    ),
+    (
+        "install",
+        r#"/w/package.json {"dependencies":{"a":"workspace:*"}}"#,
+        LEAF,
         30,
-        "not yet: ^1.0.0",
+        "not yet: workspace:*",
+    ),
+    (
+        "install",
+        PROJECT,
+        "/a/1.0.0/package.json {}\n/a/tags.json []",
+        3,
+        "manifest: registry:/a/tags.json: bad tags",
+    ),
+    (
+        "install",
+        r#"/w/package.json {"pnpm":{"overrides":{"a":"1.0.0"}}}"#,
+        LEAF,
+        30,
+        "not yet: pnpm.overrides",
     ),
     (
         "install",
@@ -51,8 +79,8 @@ const REFUSALS: [(&str, &str, &str, u8, &str); 19] = [
         "install",
         r#"/w/package.json {"devDependencies":{"x":"1.0.0"}}"#,
         "",
-        30,
-        "not yet: devDependencies",
+        6,
+        "no version: . needs x@1.0.0",
     ),
     (
         "install",
@@ -121,8 +149,8 @@ const REFUSALS: [(&str, &str, &str, u8, &str); 19] = [
         "install",
         PROJECT,
         "/a/1.0.0/package.json {\"name\":\"a\",\"version\":\"1.0.0\"}\n/a/1.0.0/lib/node_modules/x.js x",
-        30,
-        "not yet: registry:/a/1.0.0/lib/node_modules/x.js",
+        13,
+        "bundled: a@1.0.0 lib/node_modules/x.js",
     ),
 ];
 

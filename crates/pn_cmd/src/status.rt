@@ -3,7 +3,17 @@ ghost use Rattle.std.specs.Prelude.{◌≡◌};
 ghost use Rattle.pn_cmd.specs.Codes.{code_of};
 
 use pn_manifest::ManifestWhy;
-use pn_text::{Edge, Text};
+use pn_text::{Edge, PkgId, RelPath, Text};
+use thiserror::Error;
+
+/// What is wrong with a file: a manifest, by what is wrong with it; or a file of tags that says none.
+#[derive(Debug, Drop, Error)]
+pub enum FileWhy {
+    #[error("{0}")]
+    Manifest(ManifestWhy),
+    #[error("bad tags")]
+    BadTags,
+}
 
 /// How a run ends: done, or the first refusal in the order of an install.
 #[derive(Drop)]
@@ -15,11 +25,15 @@ pub enum Status {
     /// The words are no command's.
     Usage,
     /// The named file isn't in its grammar or is missing.
-    Manifest(Text, ManifestWhy),
-    /// The edge's package isn't in the registry.
+    Manifest(Text, FileWhy),
+    /// No published version is one that the edge asks for.
     NoVersion(Edge),
+    /// The edge's specifier has none of the forms.
+    Unsupported(Edge),
     /// The count is above the stated number.
     Limit(Which, u64),
+    /// That path of the package has a part `node_modules`.
+    Bundled(PkgId, RelPath),
     /// A call of the project's tree failed.
     ProjectFault,
     /// A call of the registry's tree failed.
@@ -52,7 +66,9 @@ impl Status {
             Status::Usage => 2,
             Status::Manifest(_, _) => 3,
             Status::NoVersion(_) => 6,
+            Status::Unsupported(_) => 7,
             Status::Limit(_, _) => 11,
+            Status::Bundled(_, _) => 13,
             Status::ProjectFault => 20,
             Status::RegistryFault => 22,
             Status::SinkFault => 23,

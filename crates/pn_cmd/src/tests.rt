@@ -10,6 +10,17 @@ const CYCLE: &str = r#"
 /b/1.0.0/package.json {"name":"b","version":"1.0.0","dependencies":{"@s/a":"1.0.0"}}
 "#;
 
+// The package `b` in several versions, of which the file of tags says which is the latest, and one that depends on it under
+// another name.
+const VERSIONS: &str = r#"
+/b/tags.json {"latest":"1.1.0","old":"1.0.0"}
+/b/1.0.0/package.json {"name":"b","version":"1.0.0"}
+/b/1.1.0/package.json {"name":"b","version":"1.1.0"}
+/b/1.2.0/package.json {"name":"b","version":"1.2.0"}
+/c/2.0.0-rc.2/package.json {"name":"c","version":"2.0.0-rc.2","dependencies":{"c":"*","d":"npm:b@old"},"devDependencies":{"z":"*"}}
+/c/2.1.0-rc.1/package.json {"name":"c","version":"2.1.0-rc.1"}
+"#;
+
 // Whether the run is done, with this report and these entries of `node_modules`.
 fn is_installed(
     alloc: Global,
@@ -69,5 +80,26 @@ fn projects_are_installed(rt: HostRuntime) -> Result<(), Fail> {
         ),
     ];
     assert!(rt; is_installed(alloc, project, CYCLE, report, entries.as_slice())?);
+    Ok(())
+}
+
+#[test]
+fn specifiers_are_chosen_from(rt: HostRuntime) -> Result<(), Fail> {
+    let alloc = rt.alloc();
+    let project =
+        r#"/w/package.json {"dependencies":{"b":"^1.0.0","c":">=2.0.0-rc.1 <2.1.0"},"devDependencies":{"e":"npm:b@>1.1"},"optionalDependencies":{"n":"^9.0.0"}}"#;
+    let entries = [
+        ("b", "to .pnpm/b@1.1.0/node_modules/b"),
+        ("c", "to .pnpm/c@2.0.0-rc.2/node_modules/c"),
+        ("e", "to .pnpm/b@1.2.0/node_modules/b"),
+        ("n", "nothing"),
+        (
+            ".pnpm/c@2.0.0-rc.2/node_modules/d",
+            "to ../../b@1.0.0/node_modules/b",
+        ),
+        (".pnpm/c@2.0.0-rc.2/node_modules/z", "nothing"),
+    ];
+    let report = "projects 1\npackages 4\ninstances 4\n";
+    assert!(rt; is_installed(alloc, project, VERSIONS, report, entries.as_slice())?);
     Ok(())
 }

@@ -2,12 +2,12 @@
 ghost use Rattle.std.specs.Prelude.{◌≡◌, ◌⊎◌, IfOk, string_bytes, codes, true, false, ◌++◌};
 ghost use Rattle.std.specs.Fmt.{decimal};
 ghost use Rattle.pn_cmd.specs.Reports.{TookSome};
-ghost use Rattle.pn_cmd.specs.Texts.{status_line, why_text, which_text, edge_text, TellsLine, Tells, OrMemory};
+ghost use Rattle.pn_cmd.specs.Texts.{status_line, why_text, file_text, which_text, edge_text, tail_text, TellsLine, Tells, OrMemory};
 
-use crate::status::{Status, Which};
+use crate::status::{FileWhy, Status, Which};
 use pn_fs::Sink;
 use pn_manifest::ManifestWhy;
-use pn_text::{DevFault, Edge};
+use pn_text::{DevFault, Edge, RelPath};
 use std::alloc::{AllocError, Global};
 
 /// Tells a refusal. It answers the status, or Memory where there was none to tell a refusal.
@@ -49,8 +49,10 @@ fn line_of(alloc: Global, status: &Status) -> Result<String, AllocError>
         Status::Memory => String::from_str(alloc, "pnpm-rs: out of memory\n"),
         Status::Usage => String::from_str(alloc, "pnpm-rs: usage: install\n"),
         Status::Manifest(path, why) => manifest_line(alloc, path.as_str(), why),
-        Status::NoVersion(edge) => edge_line(alloc, edge),
+        Status::NoVersion(edge) => edge_line(alloc, "pnpm-rs: no version: ", " needs ", edge),
+        Status::Unsupported(edge) => edge_line(alloc, "pnpm-rs: unsupported: ", " has ", edge),
         Status::Limit(which, count) => limit_line(alloc, *which, *count),
+        Status::Bundled(id, path) => bundled_line(alloc, id.as_str(), path),
         Status::ProjectFault => String::from_str(alloc, "pnpm-rs: project fault\n"),
         Status::RegistryFault => String::from_str(alloc, "pnpm-rs: registry fault\n"),
         Status::SinkFault => String::from_str(alloc, "pnpm-rs: output fault\n"),
@@ -61,15 +63,24 @@ fn line_of(alloc: Global, status: &Status) -> Result<String, AllocError>
     }
 }
 
-fn manifest_line(alloc: Global, path: &str, why: &ManifestWhy) -> Result<String, AllocError>
-    ensures { IfOk result (λ s. string_bytes s ≡ codes "pnpm-rs: manifest: " ++ path.now ++ codes ": " ++ why_text why.now) }
+fn manifest_line(alloc: Global, path: &str, why: &FileWhy) -> Result<String, AllocError>
+    ensures { IfOk result (λ s. string_bytes s ≡ codes "pnpm-rs: manifest: " ++ path.now ++ codes ": " ++ file_text why.now) }
 {
-    let why = why_line(alloc, why)?;
+    let why = file_line(alloc, why)?;
     let mut line = String::from_str(alloc, "pnpm-rs: manifest: ")?;
     line.push_str(path)?;
     line.push_str(": ")?;
     line.push_str(why.as_str())?;
     Ok(line)
+}
+
+fn file_line(alloc: Global, why: &FileWhy) -> Result<String, AllocError>
+    ensures { IfOk result (λ s. string_bytes s ≡ file_text why.now) }
+{
+    match why {
+        FileWhy::Manifest(why) => why_line(alloc, why),
+        FileWhy::BadTags => String::from_str(alloc, "bad tags\n"),
+    }
 }
 
 fn why_line(alloc: Global, why: &ManifestWhy) -> Result<String, AllocError>
@@ -93,30 +104,55 @@ fn bad_field_line(alloc: Global, field: &str, key: &str) -> Result<String, Alloc
     Ok(line)
 }
 
-fn edge_line(alloc: Global, edge: &Edge) -> Result<String, AllocError>
-    ensures { IfOk result (λ s. string_bytes s ≡ codes "pnpm-rs: no version: " ++ edge_text edge.now) }
+fn edge_line(alloc: Global, head: &str, verb: &str, edge: &Edge) -> Result<String, AllocError>
+    ensures { IfOk result (λ s. string_bytes s ≡ head.now ++ edge_text verb.now edge.now) }
 {
     let edge = edge_words(
         alloc,
         edge.from.as_str(),
+        verb,
         edge.alias.as_str(),
         edge.specifier.as_str(),
     )?;
-    let mut line = String::from_str(alloc, "pnpm-rs: no version: ")?;
+    let mut line = String::from_str(alloc, head)?;
     line.push_str(edge.as_str())?;
     Ok(line)
 }
 
-fn edge_words(alloc: Global, from: &str, alias: &str, specifier: &str) -> Result<String, AllocError>
-    ensures { IfOk result (λ s. string_bytes s ≡ from.now ++ codes " needs " ++ alias.now ++ codes "@" ++ specifier.now ++ codes "\n") }
+fn edge_words(
+    alloc: Global,
+    from: &str,
+    verb: &str,
+    alias: &str,
+    specifier: &str,
+) -> Result<String, AllocError>
+    ensures { IfOk result (λ s. string_bytes s ≡ from.now ++ verb.now ++ alias.now ++ codes "@" ++ specifier.now ++ codes "\n") }
 {
     let mut line = String::from_str(alloc, from)?;
-    line.push_str(" needs ")?;
+    line.push_str(verb)?;
     line.push_str(alias)?;
     line.push_str("@")?;
     line.push_str(specifier)?;
     line.push_str("\n")?;
     Ok(line)
+}
+
+fn bundled_line(alloc: Global, id: &str, path: &RelPath) -> Result<String, AllocError>
+    ensures { IfOk result (λ s. string_bytes s ≡ codes "pnpm-rs: bundled: " ++ id.now ++ codes " " ++ tail_text path.now ++ codes "\n") }
+{
+    let path = tail(path);
+    let mut line = String::from_str(alloc, "pnpm-rs: bundled: ")?;
+    line.push_str(id)?;
+    line.push_str(" ")?;
+    line.push_str(path)?;
+    line.push_str("\n")?;
+    Ok(line)
+}
+
+fn tail(path: &RelPath) -> &str
+    ensures { result.now ≡ tail_text path.now }
+{
+    path.as_str()
 }
 
 fn limit_line(alloc: Global, which: Which, count: u64) -> Result<String, AllocError>

@@ -1,18 +1,13 @@
 -- Why packages are refused.
-use Rattle.std.proofs.Common.{◌≡◌, ◌<◌, ◌≤◌, ℕ, List, Option, Some, None, IfSome, true, length, get_or, sym, subst, arith}
-use Rattle.std.specs.List.{All}
-use Rattle.std.proofs.lemmas.List.Elements.{All-get_or}
-use Rattle.pn_text.specs.declared.limits.TheConstants.{ID_LIMIT}
-use Rattle.pn_text.specs.Ids.{id_version}
+use Rattle.std.proofs.Common.{◌≡◌, Option, Some, None, IfSome, true, sym, subst, arith}
 use Rattle.pn_text.specs.Path.{Path}
+use Rattle.pn_text.specs.Name.{holds_modules}
 use Rattle.pn_fs.specs.Seen.{Seen, Keeps}
 use Rattle.pn_fs.specs.Tree.{Tree}
-use Rattle.pn_manifest.specs.Exact.{Id, is_exact}
-use Rattle.pn_registry.specs.FilesFaults.{FilesRefused}
+use Rattle.pn_registry.specs.FilesFaults.{FilesRefused, IsFirstModules}
 use Rattle.pn_registry.specs.Places.{package_folder}
 use Rattle.pn_registry.specs.declared.contents.FilesFault.TheVariants.{Modules as FileModules}
-use Rattle.pn_choice.specs.Found.{IsPackage, HasFolder}
-use Rattle.pn_choice.specs.declared.package.Package.{Package as Found}
+use Rattle.pn_layout.specs.Links.{Id}
 use Rattle.pn_collect.specs.CollectFaults.{NoFiles, CollectRefuses, NamesModules}
 use Rattle.pn_collect.specs.declared.fault.CollectFault.{CollectFault}
 use Rattle.pn_collect.specs.declared.fault.CollectFault.TheVariants.{Modules, TooLarge, Entries, Fault, Memory}
@@ -26,42 +21,25 @@ pub if_both : {T : Type 0} (P Q S : T → Type 0) (o o' : Option T) → o' ≡ o
 if_both P Q S None o' e f h k = tt
 if_both {T} P Q S (Some t) o' e f h k = let here : Q t = subst (λ (r : Option T). IfSome r Q) e k in f t h here
 
--- the file with a part `node_modules`, by its path in the registry
-pub named : (id : Id) (old new : Seen) (q : Path) (fault : CollectFault) → FilesRefused (package_folder id) old new (FileModules q) → NamesModules (package_folder id) q fault → CollectRefuses (λ r. NoFiles r id) old new fault
-named id old new q (Modules path) h k = (q, k, h.0, h.1)
+-- the file with a part `node_modules`
+pub named : (id : Id) (old new : Seen) (q : Path) (fault : CollectFault) → FilesRefused (package_folder id) old new (FileModules q) → NamesModules id q fault → CollectRefuses (λ r. NoFiles r id) old new fault
+named id old new q (Modules i path) h k =
+    (k.0, subst (λ (p : Path). holds_modules p ≡ true) (sym k.1) h.0, subst (λ (p : Path). IfSome old.tree (λ t. IsFirstModules t (package_folder id) p)) (sym k.1) h.1)
 named id old new q (TooLarge n) h k = absurd k
 named id old new q Entries h k = absurd k
 named id old new q Fault h k = absurd k
 named id old new q Memory h k = tt
 
 pub refuses_from : (C : Option Tree → CollectFault → Type 0) (old mid new : Seen) (fault : CollectFault) → Keeps old mid → CollectRefuses C mid new fault → CollectRefuses C old new fault
-refuses_from C old mid new (Modules path) k h = subst (λ (r : Option Tree). C r (Modules path)) k.tree h
+refuses_from C old mid new (Modules i path) k h = subst (λ (r : Option Tree). C r (Modules i path)) k.tree h
 refuses_from C old mid new (TooLarge n) k h = subst (λ (r : Option Tree). C r (TooLarge n)) k.tree h
 refuses_from C old mid new Entries k h = subst (λ (r : Option Tree). C r Entries) k.tree h
 refuses_from C old mid new Fault k h = omega (arith, k.later, h)
 refuses_from C old mid new Memory k h = tt
 
 pub refuses_by : (C D : Option Tree → CollectFault → Type 0) (old new : Seen) (fault : CollectFault) → (C old.tree fault → D old.tree fault) → CollectRefuses C old new fault → CollectRefuses D old new fault
-refuses_by C D old new (Modules path) f h = f h
+refuses_by C D old new (Modules i path) f h = f h
 refuses_by C D old new (TooLarge n) f h = f h
 refuses_by C D old new Entries f h = f h
 refuses_by C D old new Fault f h = h
 refuses_by C D old new Memory f h = tt
-
--- the folder of a package that is reached stands
-pub folder_at : (r now : Option Tree) (found : List Found) (k : ℕ) (p : Found) → All (IsPackage r) found → k < length found → p ≡ get_or found k p → now ≡ r → HasFolder now p.id
-folder_at r now found k p all within is same =
-    let here : IsPackage r p = subst (IsPackage r) (sym is) (All-get_or (IsPackage r) found k p within all) in
-    subst (λ (o : Option Tree). HasFolder o p.id) (sym same) here.manifest.stands
-
--- its version is exact
-pub exact_at : (r : Option Tree) (found : List Found) (k : ℕ) (p : Found) → All (IsPackage r) found → k < length found → p ≡ get_or found k p → is_exact (id_version p.id) ≡ true
-exact_at r found k p all within is =
-    let here : IsPackage r p = subst (IsPackage r) (sym is) (All-get_or (IsPackage r) found k p within all) in
-    here.exact
-
--- its id isn't too long
-pub short_at : (r : Option Tree) (found : List Found) (k : ℕ) (p : Found) → All (IsPackage r) found → k < length found → p ≡ get_or found k p → length p.id ≤ ID_LIMIT
-short_at r found k p all within is =
-    let here : IsPackage r p = subst (IsPackage r) (sym is) (All-get_or (IsPackage r) found k p within all) in
-    here.short

@@ -1,44 +1,48 @@
 -- The first package that is refused.
-use Rattle.std.proofs.Common.{◌≡◌, ◌+◌, ◌<◌, ℕ, List, Option, IfSome, map, length, take, drop, get_or, subst, IsPermutation, IsSorted}
+use Rattle.std.proofs.Common.{◌≡◌, ◌+◌, ◌<◌, ◌∷◌, ◌++◌, ℕ, List, Option, IfSome, map, nat_cmp, length, take, drop, get_or, ap, ◌∙◌, subst, IsPermutation, IsSorted}
 use Rattle.std.specs.Cmp.Lexicographic.{slice_cmp}
 use Rattle.std.specs.List.{All}
-use Rattle.std.specs.Ordering.{nat_cmp}
-use Rattle.std.proofs.lemmas.List.Sorted.{IsPermutation-refl, IsPermutation-trans}
+use Rattle.std.proofs.lemmas.List.{map-append}
+use Rattle.std.proofs.lemmas.List.Elements.{All-map, recursion_from_All}
+use Rattle.pn_text.specs.Path.{Path}
+use Rattle.pn_text.specs.First.{FirstFails}
 use Rattle.pn_fs.specs.Tree.{Tree}
-use Rattle.pn_choice.specs.Edges.{id_of}
-use Rattle.pn_choice.specs.declared.package.Package.{Package as Found}
+use Rattle.pn_graph.specs.declared.plain.Plain.{Plain}
+use Rattle.pn_registry.specs.Places.{package_folder}
+use Rattle.pn_layout.specs.Links.{Id}
 use Rattle.pn_layout.specs.declared.packages.Package.{Package}
-use Rattle.pn_collect.specs.CollectFaults.{NoFiles, HasPassed, IsFirstRefused}
-use Rattle.pn_collect.specs.Outline.{outline, wanted, IsMade, HasFiles}
+use Rattle.pn_collect.specs.CollectFaults.{NoFiles, IsFirstRefused}
+use Rattle.pn_collect.specs.Outline.{Outline, outline, dressed, bare_of, bare_id, IsMade, HasFiles, HasPassed, AreSoundFiles, AreFilesBelow}
+use Rattle.pn_collect.specs.declared.bare.Bare.{Bare}
 use Rattle.pn_collect.specs.declared.fault.CollectFault.{CollectFault}
 use Rattle.pn_collect.proofs.Causes.{if_all}
 use Rattle.pn_collect.proofs.MoreLemmas.{split_at}
+use Rattle.pn_collect.proofs.Whole.{ids_order, ids_rise}
 
-pub passes : (r now : Option Tree) (q : Found) (p : Package) → now ≡ r → outline p ≡ wanted q → IsMade p → IfSome now (λ t. HasFiles t p) → HasPassed r q
-passes r now q p same is made h = if_all (λ t. HasFiles t p) (λ t. (p : Package) × (outline p ≡ wanted q) × IsMade p × HasFiles t p) r (λ t files. (p, is, made, files)) (subst (λ (o : Option Tree). IfSome o (λ t. HasFiles t p)) same h)
+abbrev pub Passes : Option Tree → Bare → Type 0
+Passes r b = HasPassed r b.id
+
+-- a package whose files are taken passes
+pub passes : (r now : Option Tree) (b : Bare) (p : Package) → now ≡ r → outline p ≡ dressed b → IsMade p → IfSome now (λ t. HasFiles t p) → Passes r b
+passes r now b p same is made h =
+    let at : p.folder ≡ package_folder b.id = ap (λ (o : Outline). o.folder) is in
+    if_all (λ t. HasFiles t p) (λ t. (files : List Path) × AreSoundFiles (package_folder b.id) files × AreFilesBelow t (package_folder b.id) files) r
+    (λ t files. (p.files.items, subst (λ (f : Path). AreSoundFiles f p.files.items) at made.files, subst (λ (f : Path). AreFilesBelow t f p.files.items) at files))
+    (subst (λ (o : Option Tree). IfSome o (λ t. HasFiles t p)) same h)
 
 -- the package at a place of the list is refused, and those before it are not
-pub first_at : (r : Option Tree) (found : List Found) (k : ℕ) (q : Found) (fault : CollectFault) → k < length found → q ≡ get_or found k q → IsSorted (slice_cmp nat_cmp) (map id_of found)
-    → All (HasPassed r) (take k found) → NoFiles r q.id fault → IsFirstRefused found r fault
-first_at r found k q fault within is sorted passed cause =
-    let split = split_at found k q within is in
-    record {
-      before = take k found;
-      at = q;
-      rest = drop (k + 1) found;
-      all = subst (IsPermutation found) split (IsPermutation-refl found);
-      sorted = subst (λ (l : List Found). IsSorted (slice_cmp nat_cmp) (map id_of l)) split sorted;
-      passed = passed;
-      refused = cause;
-    }
-
-pub first_of : (r : Option Tree) (met found : List Found) (fault : CollectFault) → IsPermutation met found → IsFirstRefused found r fault → IsFirstRefused met r fault
-first_of r met found fault order h = record {
-  before = h.before;
-  at = h.at;
-  rest = h.rest;
-  all = IsPermutation-trans _ _ _ order h.all;
-  sorted = h.sorted;
-  passed = h.passed;
-  refused = h.refused;
+pub first_at : (r : Option Tree) (bare : List Bare) (k : ℕ) (b : Bare) (why : CollectFault) → k < length bare → b ≡ get_or bare k b → All (Passes r) (take k bare) → NoFiles r b.id why
+    → FirstFails (HasPassed r) (NoFiles r) (map bare_id bare) why
+first_at r bare k b why within is passed cause = record {
+  before = map bare_id (take k bare);
+  at = b.id;
+  after = map bare_id (drop (k + 1) bare);
+  cut = ap (map bare_id) (split_at bare k b within is) ∙ map-append bare_id (take k bare) (b ∷ drop (k + 1) bare);
+  passed = recursion_from_All (HasPassed r) (map bare_id (take k bare)) (All-map (HasPassed r) bare_id (take k bare) passed);
+  failed = cause;
 }
+
+-- the first of the graph's packages in byte order of ids
+pub first_of : (r : Option Tree) (plain : Plain) (bare : List Bare) (why : CollectFault) → IsPermutation (map (bare_of plain.packages) plain.packages) bare → IsSorted (slice_cmp nat_cmp) (map bare_id bare)
+    → FirstFails (HasPassed r) (NoFiles r) (map bare_id bare) why → IsFirstRefused plain r why
+first_of r plain bare why order sorted h = record { sorted = map bare_id bare; all = ids_order plain bare order; rising = ids_rise plain bare order sorted; first = h }

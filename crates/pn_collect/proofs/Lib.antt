@@ -1,11 +1,14 @@
+pub mod SortedTexts
 pub mod IdLists
+pub mod GraphFacts
+pub mod LinkLemmas
+pub mod Causes
 pub mod Whole
 pub mod Listing
-pub mod Causes
 pub mod MoreLemmas
 pub mod Folders
 pub mod Firsts
 pub mod Passed
-pub mod SortedTexts
 pub mod CauseLemmas
 pub mod SameLemmas
+pub mod BareLemmas

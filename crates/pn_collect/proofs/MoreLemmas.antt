@@ -11,6 +11,11 @@ image_more {A} {B} {C} f g found k q vs ws p within is added e same =
     ap (map f) added ∙ map-append f vs (p ∷ []) ∙ ap (λ (l : List C). l ++ f p ∷ []) e ∙ ap (λ (x : C). map g (take k found) ++ x ∷ []) same
     ∙ sym (ap (map g) more ∙ map-append g (take k found) (q ∷ []))
 
+pub listed_more : {A B : Type 0} (g : B → A) (found : List B) (k : ℕ) (q : B) (vs ws : List A) (p : A) → k < length found → q ≡ get_or found k q → ws ≡ vs ++ p ∷ [] → vs ≡ map g (take k found) → p ≡ g q → ws ≡ map g (take (k + 1) found)
+listed_more {A} {B} g found k q vs ws p within is added e same =
+    let more : take (k + 1) found ≡ take k found ++ q ∷ [] = take_more found k q within ∙ ap (λ (x : B). take k found ++ x ∷ []) (sym is) in
+    added ∙ ap (λ (l : List A). l ++ p ∷ []) e ∙ ap (λ (x : A). map g (take k found) ++ x ∷ []) same ∙ sym (ap (map g) more ∙ map-append g (take k found) (q ∷ []))
+
 pub all_more : {A : Type 0} (P : A → Type 0) (vs ws : List A) (p : A) → ws ≡ vs ++ p ∷ [] → All P vs → P p → All P ws
 all_more P vs ws p added h k = subst (All P) (sym added) (All-push P vs p h k)
 

@@ -7,17 +7,18 @@ use Rattle.pn_text.specs.Path.{Path}
 use Rattle.pn_fs.specs.Tree.{Tree}
 use Rattle.pn_text.proofs.Members.{from_map, here, to_map}
 use Rattle.pn_node.specs.Plan.{IsSoundFile}
-use Rattle.pn_manifest.specs.Exact.{Id}
 use Rattle.pn_registry.specs.Below.{HasMany}
 use Rattle.pn_registry.specs.FilesFaults.{entry_limit}
 use Rattle.pn_registry.specs.Places.{package_folder}
 use Rattle.pn_registry.proofs.Distinct.{no_longer}
 use Rattle.pn_collect.specs.CollectFaults.{NoFiles}
 use Rattle.pn_collect.specs.Laws.{PassedLaw}
-use Rattle.pn_collect.specs.Outline.{Outline, outline, wanted, AreFilesBelow}
+use Rattle.pn_collect.specs.Outline.{Outline, outline, wanted, node_id, HasPassed, AreFilesBelow}
 use Rattle.pn_collect.specs.declared.fault.CollectFault.{CollectFault}
 use Rattle.pn_collect.specs.declared.fault.CollectFault.TheVariants.{Modules, TooLarge, Entries, Fault, Memory}
+use Rattle.pn_layout.specs.Links.{Id}
 use Rattle.pn_collect.proofs.IdLists.{true_false}
+use Rattle.pn_collect.proofs.Listing.{entry_there}
 
 not_many : (t : Tree) (folder : Path) (files : List Path) → AreFilesBelow t folder files → HasMany t folder entry_limit → ⊥
 not_many t folder files h many =
@@ -32,22 +33,29 @@ not_many t folder files h many =
 
 -- the files that are told show no cause
 pub has_files : (t : Tree) (id : Id) (files : List Path) (fault : CollectFault) → ((f : Path) → Contains files f → IsSoundFile f) → AreFilesBelow t (package_folder id) files → NoFiles (Some t) id fault → ⊥
-has_files t id files (Modules path) sound h cause =
-    let s = cause.3.first.stands in
-    true_false (sym cause.2 ∙ (sound cause.0 (h.all cause.0 (s.0, s.1))).clean)
+has_files t id files (Modules i path) sound h cause =
+    let s = cause.2.first.stands in
+    let e = entry_there t (package_folder id) path s.0 s.1 in
+    true_false (sym cause.1 ∙ (sound path (h.all path e.0 (s.0, e.1))).clean)
 has_files t id files (TooLarge n) sound h cause =
     let s = cause.2.first.stands in
-    omega (arith, h.short cause.0 s.0 s.1, s.2, cause.1)
+    let e = entry_there t (package_folder id) cause.0 s.0 s.1 in
+    omega (arith, h.short cause.0 s.0 (h.all cause.0 e.0 (s.0, e.1)) e.1, s.2, cause.1)
 has_files t id files Entries sound h cause = not_many t (package_folder id) files h cause
 has_files t id files Fault sound h cause = cause
 has_files t id files Memory sound h cause = cause
 
+-- a package that passes isn't refused
+pub not_refused : (t : Tree) (id : Id) (fault : CollectFault) → HasPassed (Some t) id → NoFiles (Some t) id fault → ⊥
+not_refused t id fault h cause = has_files t id h.0 fault h.1.each h.2 cause
+
 pub passed : PassedLaw
-passed t own met packages fault all first =
-    let q = first.at in
-    let middle = Contains-append_right first.before (q ∷ first.rest) q (here q first.rest) in
-    let c = Contains-permutation (first.before ++ q ∷ first.rest) met q (IsPermutation-sym met (first.before ++ q ∷ first.rest) first.all) middle in
-    let told = Contains-permutation (map wanted met) (map outline packages) (wanted q) all.exact (to_map wanted met q c) in
-    let p = from_map outline packages (wanted q) told in
-    let folder : p.0.folder ≡ package_folder q.id = ap (λ (o : Outline). o.folder) p.2 in
-    has_files t q.id p.0.files.items fault (all.sound.each p.0 p.1).files (subst (λ (f : Path). AreFilesBelow t f p.0.files.items) folder (all.files p.0 p.1)) first.refused
+passed t plain packages fault all refused =
+    let ids = refused.sorted in
+    let first = refused.first in
+    let middle : Contains ids first.at = subst (λ (l : List Id). Contains l first.at) (sym first.cut) (Contains-append_right first.before (first.at ∷ first.after) first.at (here first.at first.after)) in
+    let q = from_map node_id plain.packages first.at (Contains-permutation ids (map node_id plain.packages) first.at (IsPermutation-sym (map node_id plain.packages) ids refused.all) middle) in
+    let told = Contains-permutation (map (wanted plain.packages) plain.packages) (map outline packages) (wanted plain.packages q.0) all.exact (to_map (wanted plain.packages) plain.packages q.0 q.1) in
+    let p = from_map outline packages (wanted plain.packages q.0) told in
+    let folder : p.0.folder ≡ package_folder first.at = ap (λ (o : Outline). o.folder) p.2 ∙ ap package_folder q.2 in
+    has_files t first.at p.0.files.items fault (all.sound.each p.0 p.1).files (subst (λ (f : Path). AreFilesBelow t f p.0.files.items) folder (all.files p.0 p.1)) first.failed

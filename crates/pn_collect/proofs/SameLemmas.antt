@@ -22,11 +22,11 @@ record AreListed (t : Tree) (p : Package) : Type 0 where
 same_files : (t : Tree) (p q : Package) → p.folder ≡ q.folder → AreListed t p → AreListed t q → p.files.items ≡ q.files.items
 same_files t p q folder a b =
     one_list text_below p.files.items q.files.items a.rising b.rising
-    (λ f c. b.files.all f (subst (λ (at : Path). IsFile t (f ++ at)) folder (a.files.stand f c)))
-    (λ f c. a.files.all f (subst (λ (at : Path). IsFile t (f ++ at)) (sym folder) (b.files.stand f c)))
+    (λ f c. b.files.all f (a.files.plain f c) (subst (λ (at : Path). IsFile t (f ++ at)) folder (a.files.stand f c)))
+    (λ f c. a.files.all f (b.files.plain f c) (subst (λ (at : Path). IsFile t (f ++ at)) (sym folder) (b.files.stand f c)))
 
 of_outline : Outline → List Path → Contents
-of_outline o files = record { id = o.id; dependencies = o.dependencies; folder = o.folder; files = files }
+of_outline o files = record { id = o.id; links = o.links; folder = o.folder; files = files }
 
 same_one : (t : Tree) (p q : Package) → outline p ≡ outline q → AreListed t p → AreListed t q → contents p ≡ contents q
 unfolding of_outline
@@ -45,9 +45,9 @@ same_all t (p ∷ ps) (q ∷ qs) e a b =
     ∙ ap (λ (l : List Contents). contents q ∷ l) (same_all t ps qs tails (λ p c. a p (there _ ps p c)) (λ q c. b q (there _ qs q c)))
 
 pub same : SameLaw
-same t own met packages others a b =
+same t plain packages others a b =
     let order : IsPermutation (map outline packages) (map outline others) =
-    IsPermutation-trans (map outline packages) (map wanted met) (map outline others) (IsPermutation-sym (map wanted met) (map outline packages) a.exact) b.exact in
+    IsPermutation-trans (map outline packages) (map (wanted plain.packages) plain.packages) (map outline others) (IsPermutation-sym (map (wanted plain.packages) plain.packages) (map outline packages) a.exact) b.exact in
     let outlines : map outline packages ≡ map outline others =
     one_list out_id (map outline packages) (map outline others)
     (subst (IsStrictlySortedBy (slice_cmp nat_cmp)) (ids_made packages) a.sorted) (subst (IsStrictlySortedBy (slice_cmp nat_cmp)) (ids_made others) b.sorted)

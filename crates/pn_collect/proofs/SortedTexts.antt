@@ -94,3 +94,19 @@ module _ {A : Type 0} (key : A → List ℕ) where
       let more : (z : A) → Contains (x ∷ xs) z → Contains (x ∷ ys) z = subst (λ (w : A). (z : A) → Contains (x ∷ xs) z → Contains (w ∷ ys) z) (sym head) to in
       let less : (z : A) → Contains (x ∷ ys) z → Contains (x ∷ xs) z = subst (λ (w : A). (z : A) → Contains (w ∷ ys) z → Contains (x ∷ xs) z) (sym head) back in
       ap (λ (z : A). z ∷ xs) head ∙ ap (λ (l : List A). y ∷ l) (one_list xs ys (rest x xs a) (rest y ys b) (tails x xs ys a more) (tails x ys xs ahead less))
+
+  -- of a list that rises by keys, elements with one key are one
+  pub one_by_key : (xs : List A) → IsStrictlySortedBy (slice_cmp nat_cmp) (map key xs) → (x y : A) → Contains xs x → Contains xs y → key x ≡ key y → x ≡ y
+  one_by_key [] rising x y c k e = absurd (none_in x c)
+  one_by_key (z ∷ zs) rising x y c k e = elim (in_cons z zs x c) [
+    | inl a ↦ elim (in_cons z zs y k) [
+      | inl b ↦ sym a ∙ b
+      | inr b ↦ absurd (before z zs y rising b (ap key a ∙ e))
+    ]
+    | inr a ↦ elim (in_cons z zs y k) [
+      | inl b ↦ absurd (before z zs x rising a (ap key b ∙ sym e))
+      | inr b ↦ one_by_key zs (rest z zs rising) x y a b e
+    ]
+  ] where
+    before : (z : A) (zs : List A) (w : A) → IsStrictlySortedBy (slice_cmp nat_cmp) (map key (z ∷ zs)) → Contains zs w → key z ≡ key w → ⊥
+    before z zs w rising c same = not_itself z (subst (λ t. slice_cmp nat_cmp (key z) t ≡ Less) (sym same) (first_below z zs rising w c))

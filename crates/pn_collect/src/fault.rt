@@ -1,13 +1,13 @@
 // Why the packages of an install aren't told.
-use pn_text::{AbsPath, Memory};
+use pn_text::{Memory, PkgId, RelPath};
 use thiserror::Error;
 
-/// Why the packages of an install aren't told: the registry's path of a file with a part `node_modules`; a file of so
+/// Why the packages of an install aren't told: a package with a file whose path has a part `node_modules`; a file of so
 /// many bytes, past 268,435,456; more than 4,194,304 entries below a package's folder; a failed call; no memory.
 #[derive(Debug, Drop, Error)]
 pub enum CollectFault {
-    #[error("{0} has a part node_modules")]
-    Modules(AbsPath),
+    #[error("{0} has a file {1} with a part node_modules")]
+    Modules(PkgId, RelPath),
     #[error("a file has {0} bytes")]
     TooLarge(u64),
     #[error("there are too many entries")]

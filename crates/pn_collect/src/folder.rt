@@ -1,12 +1,11 @@
 // Where a package stands in the registry.
-ghost use Rattle.std.specs.Prelude.{◌≡◌, ◌≤◌, ◌++◌, IfOk, length};
-ghost use Rattle.pn_text.specs.declared.limits.TheConstants.{ID_LIMIT, PATH_LIMIT};
-ghost use Rattle.pn_text.specs.Path.{path_text};
+ghost use Rattle.std.specs.Prelude.{◌≡◌, ◌≤◌, IfOk, length};
+ghost use Rattle.pn_text.specs.declared.limits.TheConstants.{ID_LIMIT};
 ghost use Rattle.pn_registry.specs.Places.{package_folder};
 ghost use Rattle.pn_collect.specs.CollectFaults.{NamesModules};
 
 use crate::fault::CollectFault;
-use pn_text::{AbsPath, Memory, PathFault, PkgId, RelPath};
+use pn_text::{AbsPath, Memory, PkgId, RelPath};
 use std::alloc::Global;
 
 /// The path of a package's folder. It isn't too long, since the package's id isn't.
@@ -23,13 +22,11 @@ pub fn package_folder(alloc: Global, id: &PkgId) -> Result<AbsPath, Memory>
 }
 
 /// The refusal of a file with a part `node_modules`.
-pub fn modules(alloc: Global, folder: &AbsPath, path: &RelPath) -> CollectFault
-    requires { length (path_text (path.now ++ folder.now)) ≤ PATH_LIMIT }
-    ensures { NamesModules folder.now path.now result }
+pub fn modules(alloc: Global, id: &PkgId, path: RelPath) -> CollectFault
+    ensures { NamesModules id.now path result }
 {
-    match folder.join(alloc, path) {
-        Ok(path) => CollectFault::Modules(path),
-        Err(PathFault::Memory) => CollectFault::Memory,
-        Err(_) => unreachable!(),
+    match id.copy(alloc) {
+        Ok(id) => CollectFault::Modules(id, path),
+        Err(_) => CollectFault::Memory,
     }
 }

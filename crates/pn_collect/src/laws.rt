@@ -11,7 +11,7 @@ pub fn cause_law()
     ensures { CauseLaw }
 {}
 
-/// The packages, their files and both orders are settled by the tree.
+/// The packages, their files and both orders are settled by the graph and the tree.
 pub fn same_law()
     ensures { SameLaw }
 {}

@@ -1,18 +1,20 @@
-//! The packages of an install: the packages that a project reaches, in byte order of their ids, each with its folder
-//! in the registry and its files. They keep what the layout of an install asks (`collect`): names and versions are
-//! sound, no two are one, each dependency is among them, and their files stand in the registry. A refusal is that of
-//! the first package in that order that has no files, and there is none where all have theirs (`passed_law`).
+//! The packages of an install: those of a plain graph, in byte order of their ids, each with its links, its folder in the
+//! registry and its files (`collect`), and the links of the root project (`direct`). They keep what the layout of an
+//! install asks: names and ids are sound, no two are one, each link leads to one of them, and their files stand in the
+//! registry. A refusal is that of the first package in that order that has no files, and there is none where all have
+//! theirs (`passed_law`).
 #![tactic(auto)]
 
+mod bare;
 mod fault;
 mod folder;
 mod laws;
+mod links;
 mod package;
 mod packages;
 mod paths;
-#[cfg(test)]
-mod tests;
 
 pub use fault::CollectFault;
 pub use laws::{cause_law, passed_law, same_law};
+pub use links::direct;
 pub use packages::collect;

@@ -1,44 +1,40 @@
 // One package of an install.
-ghost use Rattle.std.specs.Prelude.{◌≡◌, ◌≤◌, length, IfOk, IfErr, IfSome, true};
+ghost use Rattle.std.specs.Prelude.{◌≡◌, ◌≤◌, length, IfOk, IfErr, IfSome};
 ghost use Rattle.pn_text.specs.declared.limits.TheConstants.{ID_LIMIT};
-ghost use Rattle.pn_text.specs.Ids.{id_version, is_id};
 ghost use Rattle.pn_fs.specs.Seen.{Keeps};
-ghost use Rattle.pn_manifest.specs.Exact.{is_exact};
-ghost use Rattle.pn_manifest.specs.Pairs.{IsRising};
 ghost use Rattle.pn_registry.specs.Places.{package_folder};
-ghost use Rattle.pn_choice.specs.Found.{HasFolder};
 ghost use Rattle.pn_collect.specs.CollectFaults.{CollectRefuses, NoFiles};
-ghost use Rattle.pn_collect.specs.Outline.{outline, wanted, HasFiles, AreSoundFiles, IsMade, AreFilesBelow, IsBare};
+ghost use Rattle.pn_collect.specs.Packages.{HasFolder};
+ghost use Rattle.pn_collect.specs.Outline.{outline, dressed, HasFiles, AreSoundFiles, IsMade, AreFilesBelow, IsSoundBare};
 
+use crate::bare::Bare;
 use crate::fault::CollectFault;
 use crate::folder::{modules, package_folder};
 use crate::paths::paths;
-use pn_choice::Package as Found;
 use pn_fs::ReadFs;
 use pn_layout::Package;
-use pn_manifest::Dependencies;
 use pn_registry::{FilesFault, files};
 use pn_text::{AbsPath, Memory, PkgId, RelPath};
 use std::alloc::Global;
 
-/// A package that is reached, with its folder in the registry and its files.
+/// A package with its folder in the registry and its files.
 pub fn package<R: ReadFs>(
     alloc: Global,
     registry: &mut R,
-    found: &Found,
+    bare: &Bare,
 ) -> Result<Package, CollectFault>
-    requires stands { HasFolder (R.seen registry.old).tree found.now.id }
-    requires exact { is_exact (id_version found.now.id) ≡ true }
-    requires short { length found.now.id ≤ ID_LIMIT }
-    ensures outline { IfOk result (λ p. outline p ≡ wanted found.now) }
+    requires stands { HasFolder (R.seen registry.old).tree bare.now.id }
+    requires short { length bare.now.id ≤ ID_LIMIT }
+    requires sound { IsSoundBare bare.now }
+    ensures outline { IfOk result (λ p. outline p ≡ dressed bare.now) }
     ensures made { IfOk result IsMade }
     ensures files { IfSome (R.seen registry.old).tree (λ t. IfOk result (HasFiles t)) }
     ensures kept { Keeps (R.seen registry.old) (R.seen registry.new) }
-    ensures refused { IfErr result (CollectRefuses (λ r. NoFiles r found.now.id) (R.seen registry.old) (R.seen registry.new)) }
+    ensures refused { IfErr result (CollectRefuses (λ r. NoFiles r bare.now.id) (R.seen registry.old) (R.seen registry.new)) }
 {
-    match package_folder(alloc, &found.id) {
-        Ok(folder) => match listed(alloc, registry, &found.id, &folder) {
-            Ok(files) => match put(alloc, found, folder, files) {
+    match package_folder(alloc, &bare.id) {
+        Ok(folder) => match listed(alloc, registry, &bare.id, &folder) {
+            Ok(files) => match put(alloc, bare, folder, files) {
                 Ok(package) => Ok(package),
                 Err(_) => Err(CollectFault::Memory),
             },
@@ -67,7 +63,7 @@ fn listed<R: ReadFs>(
             Ok(paths) => Ok(paths),
             Err(_) => Err(CollectFault::Memory),
         },
-        Err(FilesFault::Modules(path)) => Err(modules(alloc, folder, &path)),
+        Err(FilesFault::Modules(path)) => Err(modules(alloc, id, path)),
         Err(FilesFault::TooLarge(_, length)) => Err(CollectFault::TooLarge(length)),
         Err(FilesFault::Entries) => Err(CollectFault::Entries),
         Err(FilesFault::Fault) => Err(CollectFault::Fault),
@@ -75,40 +71,19 @@ fn listed<R: ReadFs>(
     }
 }
 
-fn put(
-    alloc: Global,
-    found: &Found,
-    folder: AbsPath,
-    files: Vec<RelPath>,
-) -> Result<Package, Memory>
-    requires { is_exact (id_version found.now.id) ≡ true }
-    ensures bare { IfOk result (IsBare found.now) }
+fn put(alloc: Global, bare: &Bare, folder: AbsPath, files: Vec<RelPath>) -> Result<Package, Memory>
+    ensures id { IfOk result (λ p. p.id ≡ bare.now.id) }
+    ensures links { IfOk result (λ p. p.links ≡ bare.now.links) }
     ensures folder { IfOk result (λ p. p.folder ≡ folder) }
     ensures files { IfOk result (λ p. p.files.items ≡ files.items) }
 {
-    match (id_of(alloc, found), dependencies_of(alloc, found)) {
-        (Ok(id), Ok(dependencies)) => Ok(Package {
+    match (bare.id.copy(alloc), bare.links.copy(alloc)) {
+        (Ok(id), Ok(links)) => Ok(Package {
             id,
-            dependencies,
+            links,
             folder,
             files,
         }),
         _ => Err(Memory),
     }
-}
-
-fn id_of(alloc: Global, found: &Found) -> Result<PkgId, Memory>
-    ensures same { IfOk result (λ id. id ≡ found.now.id) }
-    ensures id { is_id found.now.id ≡ true }
-{
-    let _ = found.id.as_str();
-    found.id.copy(alloc)
-}
-
-fn dependencies_of(alloc: Global, found: &Found) -> Result<Dependencies, Memory>
-    ensures same { IfOk result (λ d. d ≡ found.now.dependencies) }
-    ensures rising { IsRising found.now.dependencies }
-{
-    let _ = found.dependencies.as_slice();
-    found.dependencies.copy(alloc)
 }

@@ -1,22 +1,19 @@
 // The packages of an install.
-ghost use Rattle.std.specs.Prelude.{◌≡◌, ◌++◌, ◌∷◌, [], IfOk, IfErr, OnOk, IfSome, IsSorted, map};
-ghost use Rattle.std.specs.Cmp.Lexicographic.{slice_cmp};
+ghost use Rattle.std.specs.Prelude.{◌≡◌, ◌++◌, ◌∷◌, [], IfOk, IfErr, OnOk, IfSome, map};
 ghost use Rattle.std.specs.List.{All};
-ghost use Rattle.std.specs.Ordering.{nat_cmp};
+ghost use Rattle.pn_text.specs.First.{FirstFails};
 ghost use Rattle.pn_fs.specs.Seen.{Keeps};
-ghost use Rattle.pn_choice.specs.Edges.{edges_by, id_of};
-ghost use Rattle.pn_choice.specs.Found.{IsPackage};
-ghost use Rattle.pn_choice.specs.Walked.{IsReached};
-ghost use Rattle.pn_collect.specs.CollectFaults.{CollectRefuses, IsFirstRefused};
-ghost use Rattle.pn_collect.specs.Outline.{outline, wanted, HasFiles, IsMade};
-ghost use Rattle.pn_collect.specs.Packages.{ArePackages};
+ghost use Rattle.pn_collect.specs.CollectFaults.{CollectRefuses, IsFirstRefused, NoFiles};
+ghost use Rattle.pn_collect.specs.Outline.{outline, dressed, bare_id, HasFiles, HasPassed, IsMade, IsSoundBare};
+ghost use Rattle.pn_collect.specs.Packages.{ArePackages, AreShort, FoldersStand, HasPlace};
 
+use crate::bare::{Bare, bare_by_id};
 use crate::fault::CollectFault;
+use crate::links::direct;
 use crate::package::package;
-use pn_choice::{Package as Found, Reached};
 use pn_fs::ReadFs;
+use pn_graph::Plain;
 use pn_layout::Package;
-use pn_manifest::Manifest;
 use pn_text::Memory;
 use std::alloc::Global;
 
@@ -25,37 +22,35 @@ use std::alloc::Global;
 pub fn collect<R: ReadFs>(
     alloc: Global,
     registry: &mut R,
-    project: &Manifest,
-    reached: Reached,
+    plain: &Plain,
 ) -> Result<Vec<Package>, CollectFault>
-    requires { IsReached (R.seen registry.old).tree (edges_by project.now) reached }
-    ensures packages { IfOk result (λ v. ArePackages (R.seen registry.old).tree (edges_by project.now) reached v.items) }
+    requires stand { FoldersStand (R.seen registry.old).tree plain.now }
+    requires short { AreShort plain.now }
+    ensures packages { IfOk result (λ v. ArePackages (R.seen registry.old).tree plain.now v.items) }
     ensures kept { Keeps (R.seen registry.old) (R.seen registry.new) }
-    ensures refused { IfErr result (CollectRefuses (IsFirstRefused reached) (R.seen registry.old) (R.seen registry.new)) }
+    ensures refused { IfErr result (CollectRefuses (IsFirstRefused plain.now) (R.seen registry.old) (R.seen registry.new)) }
 {
-    let _ = project.dependencies.as_slice();
-    match reached.by_id() {
-        Ok(sorted) => packages(alloc, registry, sorted.as_slice()),
-        Err(_) => Err(CollectFault::Memory),
-    }
+    let _ = direct(alloc, plain)?; // the project's aliases are names
+    let bare = bare_by_id(alloc, plain)?;
+    packages(alloc, registry, bare.as_slice())
 }
 
 // The packages in the order given.
 fn packages<R: ReadFs>(
     alloc: Global,
     registry: &mut R,
-    found: &[Found],
+    bare: &[Bare],
 ) -> Result<Vec<Package>, CollectFault>
-    requires stand { All (IsPackage (R.seen registry.old).tree) found.now }
-    requires sorted { IsSorted (slice_cmp nat_cmp) (map id_of found.now) }
-    ensures outlines { IfOk result (λ v. map outline v.items ≡ map wanted found.now) }
+    requires places { All (λ b. HasPlace (R.seen registry.old).tree b.id) bare.now }
+    requires sound { All IsSoundBare bare.now }
+    ensures outlines { IfOk result (λ v. map outline v.items ≡ map dressed bare.now) }
     ensures made { IfOk result (λ v. All IsMade v.items) }
     ensures files { IfSome (R.seen registry.old).tree (λ t. IfOk result (λ v. All (HasFiles t) v.items)) }
     ensures kept { Keeps (R.seen registry.old) (R.seen registry.new) }
-    ensures refused { IfErr result (CollectRefuses (IsFirstRefused found.now) (R.seen registry.old) (R.seen registry.new)) }
+    ensures refused { IfErr result (CollectRefuses (λ r. FirstFails (HasPassed r) (NoFiles r) (map bare_id bare.now)) (R.seen registry.old) (R.seen registry.new)) }
 {
     let mut all = Vec::new(alloc);
-    for one in found {
+    for one in bare {
         let package = package(alloc, registry, one)?;
         add(&mut all, package)?;
     }

@@ -14,9 +14,8 @@ use Rattle.pn_plan.specs.declared.planned.What.TheVariants.{Folder, Bytes, Copie
 use Rattle.pn_plan.specs.Plan.{is_planned}
 use Rattle.pn_plan.specs.Writes.{StandsAs, IsWritten}
 use Rattle.pn_plan.proofs.Writable.{planned_entry}
-use Rattle.pn_manifest.specs.Pairs.{Pair}
+use Rattle.pn_layout.specs.Links.{Id, Pair}
 use Rattle.pn_layout.specs.declared.packages.Package.{Package}
-use Rattle.pn_layout.specs.Sound.{called}
 use Rattle.pn_layout.specs.Store.{store_of, beside_of}
 use Rattle.pn_layout.specs.Layout.{instance_of, top_of, plan_of, IsLaidOut}
 use Rattle.pn_layout.specs.Laws.{BuiltLaw, IsEmptyAt}
@@ -32,18 +31,18 @@ one_entry r (Link text) a b h k = h ∙ sym k
 abbrev pub Within : Path → Path → Type 0
 Within at q = (s : Path) × (q ≡ s ++ at)
 
-in_store : (at : Path) (d : Pair) (z : Path) → Within at (z ++ beside_of at d)
+in_store : (at : Path) (d : Id) (z : Path) → Within at (z ++ beside_of at d)
 in_store at d z = (z ++ beside_of [] d, sym (append_assoc z (beside_of [] d) at))
 
 planned_within : (r : Tree) (at : Path) (direct : List Pair) (packages : List Package) (q : Path) (e : Entry) → IsPlanned (plan_of r at direct packages) q e → Within at q
 planned_within r at direct packages _ _ (marker m text h) = (marker_name ∷ [], ap (λ (l : Path × List ℕ). marker_name ∷ l.0) (sym (in_one _ (m, text) h)))
 planned_within r at direct packages _ _ (own g h) = let p = from_map (instance_of r at) packages g h in
-    subst (λ (g : Instance). Within at (home (store_of at) g)) p.2 (in_store at (called p.0) (name_path (id_name p.0.id)))
+    subst (λ (g : Instance). Within at (home (store_of at) g)) p.2 (in_store at p.0.id (name_path (id_name p.0.id)))
 planned_within r at direct packages _ _ (content g f bytes h k) = let p = from_map (instance_of r at) packages g h in
     subst (λ (g : Instance). Within at (f ++ home (store_of at) g)) p.2
-    (subst (Within at) (append_assoc f (name_path (id_name p.0.id)) (beside_of at (called p.0))) (in_store at (called p.0) (f ++ name_path (id_name p.0.id))))
+    (subst (Within at) (append_assoc f (name_path (id_name p.0.id)) (beside_of at p.0.id)) (in_store at p.0.id (f ++ name_path (id_name p.0.id))))
 planned_within r at direct packages _ _ (dependency g x target text h k rel) = let p = from_map (instance_of r at) packages g h in
-    subst (λ (g : Instance). Within at (name_path x ++ beside (store_of at) g)) p.2 (in_store at (called p.0) (name_path x))
+    subst (λ (g : Instance). Within at (name_path x ++ beside (store_of at) g)) p.2 (in_store at p.0.id (name_path x))
 planned_within r at direct packages _ _ (top l text h rel) = let d = from_map (top_of at) direct l h in
     subst (λ (l : TopLink). Within at (name_path l.name ++ l.holder)) d.2 (name_path d.0.0, refl)
 

@@ -6,14 +6,17 @@ use Rattle.std.specs.Cmp.Derive.{both_true}
 use Rattle.std.proofs.lemmas.Bool.{eqb-true}
 use Rattle.std.proofs.lemmas.List.{map-append}
 use Rattle.std.proofs.lemmas.List.Folds.{list_any-append}
-use Rattle.pn_text.specs.Path.{is_filled, is_part}
-use Rattle.pn_text.specs.Name.{modules}
+use Rattle.pn_text.specs.Path.{is_flat, is_filled, is_part}
+use Rattle.pn_text.specs.Name.{is_name, modules}
+use Rattle.pn_text.specs.Ids.{id_name, id_version, id_text, is_id, is_version}
+use Rattle.pn_text.proofs.Bools.{and_left, and_right, not_true, or_true}
+use Rattle.pn_text.proofs.IdTexts.{id_law, id_part}
 use Rattle.pn_text.proofs.NameTexts.{name_of}
-use Rattle.pn_manifest.specs.Pairs.{Pair}
-use Rattle.pn_layout.specs.Store.{id_text, plus_for_slash, dir_name}
-use Rattle.pn_layout.specs.Sound.{IsSoundPair}
-use Rattle.pn_layout.proofs.Bytes.{Lacks, lacks-append, lacks_not, name_lacks}
-use Rattle.pn_layout.proofs.Versions.{no_plus, no_at}
+use Rattle.pn_layout.specs.Links.{Id}
+use Rattle.pn_layout.specs.Store.{plus_for_slash, dir_name}
+use Rattle.pn_layout.proofs.Bytes.{Lacks, lacks_not, name_lacks}
+use Rattle.pn_layout.proofs.Slashes.{flat_same}
+use Rattle.pn_layout.proofs.Versions.{no_at}
 
 -- a byte other than `+` can be read back
 byte_back : (a b : ℕ) → a ≢ 43 → b ≢ 43 → plus_for_slash a ≡ plus_for_slash b → a ≡ b
@@ -50,27 +53,33 @@ last_at (x ∷ m) (y ∷ n) v w h k e =
     let rest = last_at m n v w h k tails in
     (ap (λ b. b ∷ m) heads ∙ ap (λ bs. y ∷ bs) rest.0, rest.1)
 
-id_lacks : (d : Pair) → IsSoundPair d → Lacks 43 (id_text d)
-id_lacks d s = lacks-append 43 d.0 (64 ∷ d.1) (name_lacks d.0 (name_of d.0 s.named)) (λ e. cc, no_plus d.1 s.exact)
+pub named_id : (id : Id) → is_id id ≡ true → is_name (id_name id) ≡ true
+named_id id h = and_left (is_name (id_name id)) (is_version (id_version id)) h
 
--- the name and the version can be read from the folder's name
-pub one_dir : (d e : Pair) → IsSoundPair d → IsSoundPair e → dir_name d ≡ dir_name e → d ≡ e
+-- a version is one part of a path, so that it stays
+dir_is : (id : Id) → is_id id ≡ true → dir_name id ≡ map plus_for_slash (id_name id) ++ 64 ∷ id_version id
+dir_is id h =
+    let part = id_part id h in
+    ap (map plus_for_slash) (sym (id_law.text id h)) ∙ map-append plus_for_slash (id_name id) (64 ∷ id_version id)
+    ∙ ap (λ v. map plus_for_slash (id_name id) ++ 64 ∷ v) (flat_same (id_version id) (not_true _ (and_left (is_flat (id_version id)) (is_filled (id_version id)) part)))
+
+-- the id can be read from the folder's name
+pub one_dir : (d e : Id) → is_id d ≡ true → is_id e ≡ true → dir_name d ≡ dir_name e → d ≡ e
 one_dir d e s t h =
-    let parts = last_at d.0 e.0 d.1 e.1 (no_at d.1 s.exact) (no_at e.1 t.exact) (text_back (id_text d) (id_text e) (id_lacks d s) (id_lacks e t) h) in
-    ap (λ n. (n, d.1)) parts.0 ∙ ap (λ v. (e.0, v)) parts.1
-
-dir_is : (d : Pair) → dir_name d ≡ map plus_for_slash d.0 ++ 64 ∷ map plus_for_slash d.1
-dir_is d = map-append plus_for_slash d.0 (64 ∷ d.1)
+    let parts =
+    last_at (map plus_for_slash (id_name d)) (map plus_for_slash (id_name e)) (id_version d) (id_version e) (no_at (id_version d) (version_id d s)) (no_at (id_version e) (version_id e t))
+    (sym (dir_is d s) ∙ h ∙ dir_is e t) in
+    let names = text_back (id_name d) (id_name e) (name_lacks (id_name d) (name_of (id_name d) (named_id d s))) (name_lacks (id_name e) (name_of (id_name e) (named_id e t))) parts.0 in
+    sym (id_law.text d s) ∙ ap (λ n. id_text n (id_version d)) names ∙ ap (id_text (id_name e)) parts.1 ∙ id_law.text e t where
+      version_id : (id : Id) → is_id id ≡ true → is_version (id_version id) ≡ true
+      version_id id h = and_right (is_name (id_name id)) (is_version (id_version id)) h
 
 -- it has an `@`
-pub dir_no_modules : (d : Pair) → dir_name d ≢ modules
-dir_no_modules d e =
-    let has : list_any (λ b. b == 64) (dir_name d) ≡ true =
-    ap (list_any (λ b. b == 64)) (dir_is d) ∙ list_any-append (λ b. b == 64) (map plus_for_slash d.0) (64 ∷ map plus_for_slash d.1) ∙ or_true (list_any (λ b. b == 64) (map plus_for_slash d.0)) in
-    let no : true ≡ false = sym has ∙ ap (list_any (λ b. b == 64)) e in cc where
-      or_true : (b : Bool) → (b || true) ≡ true
-      or_true true = refl
-      or_true false = refl
+pub dir_no_modules : (id : Id) → is_id id ≡ true → dir_name id ≢ modules
+dir_no_modules id h e =
+    let has : list_any (λ b. b == 64) (dir_name id) ≡ true =
+    ap (list_any (λ b. b == 64)) (dir_is id h) ∙ list_any-append (λ b. b == 64) (map plus_for_slash (id_name id)) (64 ∷ id_version id) ∙ or_true (list_any (λ b. b == 64) (map plus_for_slash (id_name id))) in
+    let no : true ≡ false = sym has ∙ ap (list_any (λ b. b == 64)) e in cc
 
 byte_flat : (b : ℕ) → (plus_for_slash b == 47) ≡ false
 byte_flat b = elim (b == 47) as (λ c. (b == 47) ≡ c → ((if c then 43 else b) == 47) ≡ false) [ true ↦ λ is. refl | false ↦ λ is. is ] refl
@@ -93,5 +102,5 @@ at_filled (a ∷ b ∷ []) v = refl
 at_filled (a ∷ b ∷ c ∷ m) v = refl
 
 -- it names an entry of a folder
-pub dir_is_part : (d : Pair) → IsTrue (is_part (dir_name d))
-dir_is_part d = both_true (ap not (text_flat (id_text d))) (ap is_filled (dir_is d) ∙ at_filled (map plus_for_slash d.0) (map plus_for_slash d.1))
+pub dir_is_part : (id : Id) → is_id id ≡ true → IsTrue (is_part (dir_name id))
+dir_is_part id h = both_true (ap not (text_flat id)) (ap is_filled (dir_is id h) ∙ at_filled (map plus_for_slash (id_name id)) (id_version id))

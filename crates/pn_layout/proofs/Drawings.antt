@@ -5,7 +5,7 @@ use Rattle.std.specs.List.{flat_map}
 use Rattle.std.specs.Cmp.Derive.{both_true}
 use Rattle.std.proofs.lemmas.List.{take_more, map-append}
 use Rattle.std.proofs.lemmas.Grind.{flat_map-append}
-use Rattle.pn_text.specs.Ids.{id_name}
+use Rattle.pn_text.specs.Ids.{id_name, is_id}
 use Rattle.pn_text.specs.Path.{Path, text_below, SpellsParts}
 use Rattle.pn_text.specs.Name.{is_name, name_path}
 use Rattle.pn_text.proofs.Paths.{same_path-Decides}
@@ -14,14 +14,13 @@ use Rattle.pn_text.proofs.NameTexts.{name_of, name_is_path, names_spell}
 use Rattle.pn_plan.specs.declared.planned.What.{What}
 use Rattle.pn_plan.specs.Drawing.{Drawing, drawn, with_leaf, is_within, is_below}
 use Rattle.pn_plan.specs.Entries.{with_leaves}
-use Rattle.pn_manifest.specs.Pairs.{Pair}
+use Rattle.pn_layout.specs.Links.{Id}
 use Rattle.pn_layout.specs.Store.{dir_name, beside_of, home_of}
 use Rattle.pn_plan.specs.declared.planned.What.TheVariants.{Folder}
 use Rattle.pn_layout.specs.declared.packages.Package.{Package}
-use Rattle.pn_layout.specs.Sound.{called}
 use Rattle.pn_layout.specs.Leaves.{Leaf, file_leaf, link_leaf, package_leaves}
 use Rattle.pn_layout.specs.Drawn.{Draws}
-use Rattle.pn_layout.proofs.Dirs.{dir_is_part}
+use Rattle.pn_layout.proofs.Dirs.{dir_is_part, named_id}
 use Rattle.pn_layout.proofs.Ways.{spells_home}
 
 with_leaves-append : (m : Path) (xs ys : List Leaf) (d : Path → Option What) → with_leaves m d (xs ++ ys) ≡ with_leaves m (with_leaves m d xs) ys
@@ -67,11 +66,11 @@ same_within m p e = ap (λ b. b || is_below m p) ((same_path-Decides p m).1 (sym
 pub spells_same : (a b : List ℕ) (p : Path) → a ≡ b → SpellsParts b p → SpellsParts a p
 spells_same a b p e h = subst (λ t. SpellsParts t p) (sym e) h
 
--- a name in the folder of a package that is called so
-pub spells_beside : (d : Pair) (n : List ℕ) → is_name n ≡ true → SpellsParts (codes ".pnpm/" ++ dir_name d ++ codes "/node_modules/" ++ n) (name_path n ++ beside_of [] d)
-spells_beside d n named = record {
-  good = is_path-append (name_path n) (beside_of [] d) (name_is_path n (name_of n named)) (both_true refl (both_true (dir_is_part d) refl));
-  spelled = sym (spells_home n (dir_name d) (codes ".pnpm" ∷ []) (codes ".pnpm/") (name_of n named) refl);
+-- a name in the folder of a package
+pub spells_beside : (id : Id) (n : List ℕ) → is_id id ≡ true → is_name n ≡ true → SpellsParts (codes ".pnpm/" ++ dir_name id ++ codes "/node_modules/" ++ n) (name_path n ++ beside_of [] id)
+spells_beside id n good named = record {
+  good = is_path-append (name_path n) (beside_of [] id) (name_is_path n (name_of n named)) (both_true refl (both_true (dir_is_part id good) refl));
+  spelled = sym (spells_home n (dir_name id) (codes ".pnpm" ∷ []) (codes ".pnpm/") (name_of n named) refl);
 }
 
 pub spells_name : (n : List ℕ) → is_name n ≡ true → SpellsParts n (name_path n)
@@ -83,28 +82,27 @@ spells_below a b p q h k = record {
   spelled = ap (λ t. t ++ 47 ∷ b) h.spelled ∙ ap (λ t. text_below p ++ t) k.spelled ∙ sym (text_below-append q p);
 }
 
-pub beside_at : (top : Path) (d : Pair) (n : List ℕ) → (name_path n ++ beside_of [] d) ++ top ≡ name_path n ++ beside_of top d
+pub beside_at : (top : Path) (d : Id) (n : List ℕ) → (name_path n ++ beside_of [] d) ++ top ≡ name_path n ++ beside_of top d
 beside_at top d n = append_assoc (name_path n) (beside_of [] d) top
 
-pub file_at : (top : Path) (d : Pair) (f : Path) → (f ++ home_of [] d) ++ top ≡ f ++ home_of top d
-file_at top d f = append_assoc f (home_of [] d) top ∙ ap (λ q. f ++ q) (beside_at top d d.0)
+pub file_at : (top : Path) (d : Id) (f : Path) → (f ++ home_of [] d) ++ top ≡ f ++ home_of top d
+file_at top d f = append_assoc f (home_of [] d) top ∙ ap (λ q. f ++ q) (beside_at top d (id_name d))
 
 -- a text in other words
 pub way_is : (text up lead dir name up2 dir2 name2 : List ℕ) → text ≡ up ++ lead ++ dir ++ codes "/node_modules/" ++ name → up ≡ up2 → dir ≡ dir2 → name ≡ name2
     → text ≡ up2 ++ lead ++ dir2 ++ codes "/node_modules/" ++ name2
 way_is text up lead dir name up2 dir2 name2 e f g h = e ∙ (λ i. f i ++ lead ++ g i ++ codes "/node_modules/" ++ h i)
 
-pub home_spelled : (text dir name : List ℕ) (p : Package) → text ≡ [] ++ codes ".pnpm/" ++ dir ++ codes "/node_modules/" ++ name → dir ≡ dir_name (called p) → name ≡ (id_name p.id) → is_name name ≡ true
-    → SpellsParts text (home_of [] (called p))
-home_spelled text dir name p e f g named =
-    spells_same text (codes ".pnpm/" ++ dir_name (called p) ++ codes "/node_modules/" ++ (id_name p.id)) (home_of [] (called p))
-    (way_is text [] (codes ".pnpm/") dir name [] (dir_name (called p)) (id_name p.id) e refl f g)
-    (spells_beside (called p) (id_name p.id) (subst (λ n. is_name n ≡ true) g named))
+pub home_spelled : (text dir name : List ℕ) (id : Id) → text ≡ [] ++ codes ".pnpm/" ++ dir ++ codes "/node_modules/" ++ name → dir ≡ dir_name id → name ≡ id_name id → is_id id ≡ true → SpellsParts text (home_of [] id)
+home_spelled text dir name id e f g good =
+    spells_same text (codes ".pnpm/" ++ dir_name id ++ codes "/node_modules/" ++ id_name id) (home_of [] id)
+    (way_is text [] (codes ".pnpm/") dir name [] (dir_name id) (id_name id) e refl f g)
+    (spells_beside id (id_name id) good (named_id id good))
 
 -- a package's leaves: its folder, its files, its links
-pub draws_package : {T E : Type 0} (r : Result T E) (at : Path) (p : Package) (a b c d : Drawing) → Draws a b ((home_of at (called p), Folder) ∷ [])
-    → Draws b c (map (file_leaf at (called p) p.folder) p.files.items) → OnOk r (Draws c d (map (link_leaf at (called p)) p.dependencies)) → OnOk r (Draws a d (package_leaves at p))
+pub draws_package : {T E : Type 0} (r : Result T E) (at : Path) (p : Package) (a b c d : Drawing) → Draws a b ((home_of at p.id, Folder) ∷ [])
+    → Draws b c (map (file_leaf at p.id p.folder) p.files.items) → OnOk r (Draws c d (map (link_leaf at p.id) p.links)) → OnOk r (Draws a d (package_leaves at p))
 draws_package (Ok v) at p a b c d h k l =
-    draws_then a b d ((home_of at (called p), Folder) ∷ []) (map (file_leaf at (called p) p.folder) p.files.items ++ map (link_leaf at (called p)) p.dependencies) h
-    (draws_then b c d (map (file_leaf at (called p) p.folder) p.files.items) (map (link_leaf at (called p)) p.dependencies) k l)
+    draws_then a b d ((home_of at p.id, Folder) ∷ []) (map (file_leaf at p.id p.folder) p.files.items ++ map (link_leaf at p.id) p.links) h
+    (draws_then b c d (map (file_leaf at p.id p.folder) p.files.items) (map (link_leaf at p.id) p.links) k l)
 draws_package (Err e) at p a b c d h k l = tt

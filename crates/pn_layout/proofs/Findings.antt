@@ -5,7 +5,7 @@ use Rattle.pn_text.proofs.Members.{to_map}
 use Rattle.pn_fs.specs.Tree.{Tree}
 use Rattle.pn_node.specs.Finds.{Finds}
 use Rattle.pn_node.proofs.Laws.{lookup, top_lookup}
-use Rattle.pn_manifest.specs.Pairs.{Pair}
+use Rattle.pn_layout.specs.Links.{Pair}
 use Rattle.pn_layout.specs.declared.packages.Package.{Package}
 use Rattle.pn_layout.specs.Store.{home_of}
 use Rattle.pn_layout.specs.Layout.{instance_of, top_of, plan_of}
@@ -16,8 +16,8 @@ use Rattle.pn_layout.proofs.Plans.{link_from, sound, lands}
 finds_own : (r u : Tree) (top : Path) (direct : List Pair) (packages : List Package) (p : Package) (from : Path) → Finds u (plan_of r top direct packages) (instance_of r top p) from → FindsOwn u top p from
 finds_own r u top direct packages p from h = record {
   own = h.own;
-  dependency = λ d d_in. h.dependency d.0 (home_of top d) (to_map (λ (d : Pair). (d.0, home_of top d)) p.dependencies d d_in);
-  other = λ x named not_own not_linked. h.other x named not_own (λ target x_in. let d = link_from top p.dependencies x target x_in in not_linked d.0 d.1 d.2);
+  dependency = λ d d_in. h.dependency d.0 (home_of top d.1) (to_map (λ (d : Pair). (d.0, home_of top d.1)) p.links d d_in);
+  other = λ x named not_own not_linked. h.other x named not_own (λ target x_in. let d = link_from top p.links x target x_in in not_linked d.0 d.1 d.2);
 }
 
 pub finds : FindsLaw

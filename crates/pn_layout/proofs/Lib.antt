@@ -1,12 +1,13 @@
 pub mod Contents
 pub mod Bytes
 pub mod Versions
+pub mod Slashes
 pub mod Dirs
+pub mod OwnTexts
 pub mod Ways
 pub mod Plans
 pub mod Findings
 pub mod Builds
-pub mod Slashes
 pub mod Drawings
 pub mod Within
 pub mod Once

@@ -1,4 +1,4 @@
--- A list of dependencies in order has each name once.
+-- A list of links in order has each alias once.
 use Rattle.std.proofs.Common.{◌≡◌, ℕ, List, [], ◌∷◌, sym, ap, ◌∙◌, true, inl, inr}
 use Rattle.std.specs.List.{Contains}
 use Rattle.std.proofs.lemmas.List.Elements.{All-contains, All-from_recursion}
@@ -8,7 +8,7 @@ use Rattle.std.specs.Cmp.Lexicographic.{slice_cmp}
 use Rattle.std.specs.List.Sorted.{IsStrictlySortedBy}
 use Rattle.std.specs.Ordering.{nat_cmp, is_eq}
 use Rattle.std.specs.declared.cmp.Ordering.TheVariants.{Less}
-use Rattle.pn_manifest.specs.Pairs.{Pair, names, IsRising}
+use Rattle.pn_layout.specs.Links.{Pair, aliases, IsRising}
 use Rattle.pn_text.proofs.Members.{to_map, none_in, in_cons}
 
 not_below_itself : (n m : List ℕ) → n ≡ m → slice_cmp nat_cmp n m ≡ Less → ⊥
@@ -18,7 +18,7 @@ not_below_itself n m same h =
 first_below : (x : Pair) (xs : List Pair) → IsRising (x ∷ xs) → (d : Pair) → Contains xs d → slice_cmp nat_cmp x.0 d.0 ≡ Less
 unfolding IsStrictlySortedBy
 first_below x xs rising d d_in =
-    All-contains (λ y. slice_cmp nat_cmp x.0 y ≡ Less) (names xs) d.0 (All-from_recursion (λ y. slice_cmp nat_cmp x.0 y ≡ Less) (names xs) rising.0) (to_map (λ (e : Pair). e.0) xs d d_in)
+    All-contains (λ y. slice_cmp nat_cmp x.0 y ≡ Less) (aliases xs) d.0 (All-from_recursion (λ y. slice_cmp nat_cmp x.0 y ≡ Less) (aliases xs) rising.0) (to_map (λ (e : Pair). e.0) xs d d_in)
 
 pub once : (all : List Pair) → IsRising all → (d e : Pair) → Contains all d → Contains all e → d.0 ≡ e.0 → d ≡ e
 unfolding IsStrictlySortedBy

@@ -14,9 +14,9 @@ use Rattle.pn_plan.specs.Drawing.{Drawing, drawn, bare, is_below, is_within, IsF
 use Rattle.pn_plan.specs.Entries.{drawing, with_leaves, IsEntry, top, leaf, between, AreLeaves}
 use Rattle.pn_plan.specs.Plan.{Plans}
 use Rattle.pn_plan.proofs.Leaves.{drawing_entries}
-use Rattle.pn_manifest.specs.Pairs.{Pair}
+use Rattle.pn_layout.specs.Links.{Pair}
 use Rattle.pn_layout.specs.declared.packages.Package.{Package}
-use Rattle.pn_layout.specs.Sound.{AreSoundDependencies, AreSound, FilesStand}
+use Rattle.pn_layout.specs.Sound.{AreSoundLinks, AreSound, FilesStand}
 use Rattle.pn_layout.specs.Layout.{plan_of, IsLaidOut, IsFileOf, IsClosed}
 use Rattle.pn_layout.specs.Leaves.{Leaf, marker_leaf, top_leaf, package_leaves, leaves_of}
 use Rattle.pn_layout.specs.Drawn.{Draws}
@@ -59,16 +59,16 @@ entry_copied at direct packages _ _ (between q p w h below within) c e = cc
 
 -- The drawing of the leaves, and what is planned as it is drawn.
 pub record IsFinished (at : Path) (direct : List Pair) (packages : List Package) (d : Drawing) (all : List Planned) : Type 0 where
-  pub direct_sound : AreSoundDependencies direct
+  pub direct_sound : AreSoundLinks direct
   pub sound : AreSound packages
   pub drawn_is : drawn d ≡ drawing at (leaves_of at direct packages)
   pub entries : (q : Path) (w : What) → Plans all q w ↔ (drawn d q ≡ Some w)
 
-entry_drawn : (at : Path) (direct : List Pair) (packages : List Package) (d : Drawing) → AreSoundDependencies direct → AreSound packages → drawn d ≡ drawing at (leaves_of at direct packages)
+entry_drawn : (at : Path) (direct : List Pair) (packages : List Package) (d : Drawing) → AreSoundLinks direct → AreSound packages → drawn d ≡ drawing at (leaves_of at direct packages)
     → (q : Path) (w : What) → drawn d q ≡ Some w → IsEntry at (leaves_of at direct packages) q w
 entry_drawn at direct packages d sd sound is q w h = (drawing_entries at (leaves_of at direct packages) (are_leaves at direct packages sd sound) q w).0 (ap (λ (f : Path → Option What). f q) (sym is) ∙ h)
 
-drawn_entry : (at : Path) (direct : List Pair) (packages : List Package) (d : Drawing) → AreSoundDependencies direct → AreSound packages → drawn d ≡ drawing at (leaves_of at direct packages)
+drawn_entry : (at : Path) (direct : List Pair) (packages : List Package) (d : Drawing) → AreSoundLinks direct → AreSound packages → drawn d ≡ drawing at (leaves_of at direct packages)
     → (q : Path) (w : What) → IsEntry at (leaves_of at direct packages) q w → drawn d q ≡ Some w
 drawn_entry at direct packages d sd sound is q w h = ap (λ (f : Path → Option What). f q) is ∙ (drawing_entries at (leaves_of at direct packages) (are_leaves at direct packages sd sound) q w).1 h
 
@@ -99,7 +99,7 @@ closed at direct packages d all f =
       copied = λ q c h. entry_copied at direct packages q (Copied c) (there at direct packages d all f q (Copied c) h) c refl;
     }
 
-pub too_long : (at : Path) (direct : List Pair) (packages : List Package) (d : Drawing) (n : ℕ) → AreSoundDependencies direct → AreSound packages → drawn d ≡ drawing at (leaves_of at direct packages)
+pub too_long : (at : Path) (direct : List Pair) (packages : List Package) (d : Drawing) (n : ℕ) → AreSoundLinks direct → AreSound packages → drawn d ≡ drawing at (leaves_of at direct packages)
     → IsFirstLong (drawn d) n → (r : Tree) → IsTooLong (plan_of r at direct packages) n
 too_long at direct packages d n sd sound is h r =
     let x = to_build r at direct packages sd sound h.path h.what (entry_drawn at direct packages d sd sound is h.path h.what h.stands) in
@@ -113,7 +113,7 @@ too_long at direct packages d n sd sound is h r =
     }
 
 -- no path of the build is longer than the drawn ones
-pub all_short : (at : Path) (direct : List Pair) (packages : List Package) (d : Drawing) → AreSoundDependencies direct → AreSound packages → drawn d ≡ drawing at (leaves_of at direct packages)
+pub all_short : (at : Path) (direct : List Pair) (packages : List Package) (d : Drawing) → AreSoundLinks direct → AreSound packages → drawn d ≡ drawing at (leaves_of at direct packages)
     → ((q : Path) (w : What) → drawn d q ≡ Some w → length (path_text q) ≤ 4096) → (r : Tree) (q : Path) (e : Entry) → InBuild (plan_of r at direct packages) q e → length (path_text q) ≤ 4096
 all_short at direct packages d sd sound is short r q e b =
     let y = from_build r at direct packages sd sound q e b in short q y.0 (drawn_entry at direct packages d sd sound is q y.0 y.1)

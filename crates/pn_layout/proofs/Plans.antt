@@ -9,13 +9,13 @@ use Rattle.pn_text.proofs.Members.{from_map, to_map, in_one, here}
 use Rattle.pn_fs.specs.Tree.{folder, Tree}
 use Rattle.pn_node.specs.Plan.{Instance, TopLink, marker_name, IsBuilt, IsSoundTop, IsSoundFile, planned, own}
 use Rattle.pn_node.proofs.NamePaths.{Shape, single, double, shape, snoc_same}
-use Rattle.pn_manifest.specs.Pairs.{Pair}
+use Rattle.pn_layout.specs.Links.{Id, Pair}
 use Rattle.pn_layout.specs.declared.packages.Package.{Package}
 use Rattle.pn_layout.specs.Store.{store_of, dir_name, home_of}
-use Rattle.pn_layout.specs.Sound.{called, IsSoundPair, IsSoundPackage, AreSound, IsAmong}
+use Rattle.pn_layout.specs.Sound.{IsSoundPair, IsSoundPackage, AreSound, IsAmong}
 use Rattle.pn_layout.specs.Layout.{file_bytes, instance_of, top_of, plan_of}
 use Rattle.pn_layout.specs.Laws.{SoundLaw, LandsLaw}
-use Rattle.pn_layout.proofs.Dirs.{one_dir, dir_no_modules}
+use Rattle.pn_layout.proofs.Dirs.{one_dir, dir_no_modules, named_id}
 
 dotted : (y x : List ℕ) → is_name_part y ≡ true → y ≡ 46 ∷ x → ⊥
 dotted y x h e = let no : false ≡ true = sym (ap is_name_part e) ∙ h in cc
@@ -37,11 +37,11 @@ file_from r p f bytes h =
     let same : from.0 ≡ f = ap (λ (l : Path × List ℕ). l.0) from.2 in
     (subst (Contains p.files.items) same from.1, sym (ap (λ (l : Path × List ℕ). l.1) from.2) ∙ ap (λ q. file_bytes (r (q ++ p.folder))) same)
 
--- a link of an instance is a dependency of the package
-pub link_from : (top : Path) (all : List Pair) (x : List ℕ) (target : Path) → Contains {X = List ℕ × Path} (map (λ (d : Pair). (d.0, home_of top d)) all) (x, target)
-    → (d : Pair) × Contains all d × (d.0 ≡ x) × (home_of top d ≡ target)
+-- a link of an instance is one of the package
+pub link_from : (top : Path) (all : List Pair) (x : List ℕ) (target : Path) → Contains {X = List ℕ × Path} (map (λ (d : Pair). (d.0, home_of top d.1)) all) (x, target)
+    → (d : Pair) × Contains all d × (d.0 ≡ x) × (home_of top d.1 ≡ target)
 link_from top all x target h =
-    let from = from_map (λ (d : Pair). (d.0, home_of top d)) all (x, target) h in
+    let from = from_map (λ (d : Pair). (d.0, home_of top d.1)) all (x, target) h in
     (from.0, from.1, ap (λ (l : List ℕ × Path). l.0) from.2, ap (λ (l : List ℕ × Path). l.1) from.2)
 
 sound_top : (top : Path) (d : Pair) → IsSoundPair d → IsSoundTop (store_of top) (top_of top d)
@@ -61,8 +61,8 @@ apart : (r : Tree) (top : Path) (packages : List Package) → AreSound packages 
 apart r top packages s a b a_in b_in e =
     let p = of_instance r top packages a a_in in
     let q = of_instance r top packages b b_in in
-    let dirs : dir_name (called p.0) ≡ dir_name (called q.0) = ap (λ (g : Instance). g.dir) p.2 ∙ e ∙ sym (ap (λ (g : Instance). g.dir) q.2) in
-    let same : p.0 ≡ q.0 = s.apart p.0 q.0 p.1 q.1 (one_dir (called p.0) (called q.0) (s.each p.0 p.1).pair (s.each q.0 q.1).pair dirs) in
+    let dirs : dir_name p.0.id ≡ dir_name q.0.id = ap (λ (g : Instance). g.dir) p.2 ∙ e ∙ sym (ap (λ (g : Instance). g.dir) q.2) in
+    let same : p.0 ≡ q.0 = s.apart p.0 q.0 p.1 q.1 (one_dir p.0.id q.0.id (s.each p.0 p.1).id (s.each q.0 q.1).id dirs) in
     sym p.2 ∙ ap (instance_of r top) same ∙ q.2
 
 sound_files : (r : Tree) (top : Path) (p : Package) (g : Instance) → IsSoundPackage p → instance_of r top p ≡ g → (f : Path) (bytes : List ℕ) → Contains g.files (f, bytes) → IsSoundFile f
@@ -70,8 +70,8 @@ sound_files r top p g s is f bytes h = s.files f (file_from r p f bytes (subst (
 
 sound_links : (r : Tree) (top : Path) (p : Package) (g : Instance) → IsSoundPackage p → instance_of r top p ≡ g → (x : List ℕ) (target : Path) → Contains g.links (x, target) → (is_name x ≡ true) × (x ≢ g.name)
 sound_links r top p g s is x target h =
-    let d = link_from top p.dependencies x target (subst (λ (g : Instance). Contains g.links (x, target)) (sym is) h) in
-    (subst (λ n. is_name n ≡ true) d.2 (s.dependencies.each d.0 d.1).named, λ e. s.others d.0 d.1 (d.2 ∙ e ∙ sym (ap (λ (g : Instance). g.name) is)))
+    let d = link_from top p.links x target (subst (λ (g : Instance). Contains g.links (x, target)) (sym is) h) in
+    (subst (λ n. is_name n ≡ true) d.2 (s.links.each d.0 d.1).named, λ e. s.others d.0 d.1 (d.2 ∙ e ∙ sym (ap (λ (g : Instance). g.name) is)))
 
 longer : (q top : Path) (x : List ℕ) → top ≡ q ++ x ∷ top → ⊥
 longer q top x e = omega (arith, ap length e, length-append q (x ∷ top))
@@ -87,8 +87,8 @@ sound r top direct packages s all = record {
   under = (top, codes ".pnpm" ∷ [], here top [], refl);
   stores = λ m q m_in is. absurd (longer q top (codes ".pnpm") (subst (λ (m : Path). m ≡ q ++ store_of top) (sym (in_one top m m_in)) is));
   apart = apart r top packages all;
-  dirs = λ g g_in e. let p = of_instance r top packages g g_in in dir_no_modules (called p.0) (ap (λ (g : Instance). g.dir) p.2 ∙ e);
-  names = λ g g_in. let p = of_instance r top packages g g_in in subst (λ (g : Instance). is_name g.name ≡ true) p.2 (all.each p.0 p.1).pair.named;
+  dirs = λ g g_in e. let p = of_instance r top packages g g_in in dir_no_modules p.0.id (all.each p.0 p.1).id (ap (λ (g : Instance). g.dir) p.2 ∙ e);
+  names = λ g g_in. let p = of_instance r top packages g g_in in subst (λ (g : Instance). is_name g.name ≡ true) p.2 (named_id p.0.id (all.each p.0 p.1).id);
   files = λ g f bytes g_in. let p = of_instance r top packages g g_in in sound_files r top p.0 g (all.each p.0 p.1) p.2 f bytes;
   links = λ g x target g_in. let p = of_instance r top packages g g_in in sound_links r top p.0 g (all.each p.0 p.1) p.2 x target;
   tops = λ l l_in. let d = from_map (top_of top) direct l l_in in subst (IsSoundTop (store_of top)) d.2 (sound_top top d.0 (s.each d.0 d.1));
@@ -98,19 +98,19 @@ sound r top direct packages s all = record {
 }
 
 -- what is among the packages has its folder in the build
-lands_at : (r : Tree) (top : Path) (direct : List Pair) (packages : List Package) (t : Tree) → IsBuilt t (plan_of r top direct packages) → (d : Pair) → IsAmong packages d → t (home_of top d) ≡ Some folder
-lands_at r top direct packages t built d among =
+lands_at : (r : Tree) (top : Path) (direct : List Pair) (packages : List Package) (t : Tree) → IsBuilt t (plan_of r top direct packages) → (id : Id) → IsAmong packages id → t (home_of top id) ≡ Some folder
+lands_at r top direct packages t built id among =
     let g_in = to_map (instance_of r top) packages among.0 among.1 in
-    subst (λ (d : Pair). t (home_of top d) ≡ Some folder) among.2
-    (built.all (home_of top (called among.0)) folder (planned (home_of top (called among.0)) folder (own (instance_of r top among.0) g_in)))
+    subst (λ (id : Id). t (home_of top id) ≡ Some folder) among.2
+    (built.all (home_of top among.0.id) folder (planned (home_of top among.0.id) folder (own (instance_of r top among.0) g_in)))
 
 pub lands : LandsLaw
 lands r top direct packages t whole built = record {
   links = λ g x target g_in x_in.
       let p = of_instance r top packages g g_in in
-      let d = link_from top p.0.dependencies x target (subst (λ (g : Instance). Contains g.links (x, target)) (sym p.2) x_in) in
-      subst (λ (q : Path). t q ≡ Some folder) d.3 (lands_at r top direct packages t built d.0 (whole.others p.0 d.0 p.1 d.1));
+      let d = link_from top p.0.links x target (subst (λ (g : Instance). Contains g.links (x, target)) (sym p.2) x_in) in
+      subst (λ (q : Path). t q ≡ Some folder) d.3 (lands_at r top direct packages t built d.0.1 (whole.others p.0 d.0 p.1 d.1));
   tops = λ l l_in.
       let d = from_map (top_of top) direct l l_in in
-      subst (λ (l : TopLink). t l.target ≡ Some folder) d.2 (lands_at r top direct packages t built d.0 (whole.project d.0 d.1));
+      subst (λ (l : TopLink). t l.target ≡ Some folder) d.2 (lands_at r top direct packages t built d.0.1 (whole.project d.0 d.1));
 }

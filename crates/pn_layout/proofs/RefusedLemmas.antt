@@ -5,11 +5,11 @@ use Rattle.std.specs.Ordering.{is_eq, ordering_reverse}
 use Rattle.std.proofs.lemmas.Cmp.{nat_list_cmp_total}
 use Rattle.std.proofs.lemmas.Map.Text.{is_eq-slice_cmp}
 use Rattle.std.proofs.lemmas.Slice.Eq.{bytes_eq-Decides}
-use Rattle.pn_text.specs.Ids.{id_name, id_version}
+use Rattle.pn_text.specs.Ids.{id_name}
 use Rattle.pn_text.specs.Path.{Path, path_text}
 use Rattle.pn_fs.specs.Tree.{Tree}
 use Rattle.pn_node.specs.Plan.{Instance, Plan, InBuild}
-use Rattle.pn_manifest.specs.Pairs.{Pair}
+use Rattle.pn_layout.specs.Links.{Pair}
 use Rattle.pn_layout.specs.declared.packages.Package.{Package}
 use Rattle.pn_layout.specs.Laws.{PassedLaw, CauseLaw}
 use Rattle.pn_layout.specs.Layout.{file_bytes, instance_of, plan_of, top_of}
@@ -19,10 +19,10 @@ use Rattle.pn_layout.specs.Store.{dir_name, home_of, store_of}
 
 instance_by : Tree → Path → Contents → Instance
 instance_by r top c = record {
-  dir = dir_name (id_name c.id, id_version c.id);
+  dir = dir_name c.id;
   name = id_name c.id;
   files = map (λ (f : Path). (f, file_bytes (r (f ++ c.folder)))) c.files;
-  links = map (λ (d : Pair). (d.0, home_of top d)) c.dependencies;
+  links = map (λ (l : Pair). (l.0, home_of top l.1)) c.links;
 }
 
 instances_by : (r : Tree) (top : Path) (packages : List Package) → map (instance_of r top) packages ≡ map (instance_by r top) (map contents packages)

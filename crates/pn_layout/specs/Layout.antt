@@ -10,10 +10,9 @@ use Rattle.pn_plan.specs.Writes.{StandsAs}
 use Rattle.pn_plan.specs.declared.planned.Planned.{Planned}
 use Rattle.pn_plan.specs.declared.planned.What.{What}
 use Rattle.pn_plan.specs.declared.planned.What.TheVariants.{Folder, Copied}
-use Rattle.pn_manifest.specs.Pairs.{Pair}
+use Rattle.pn_layout.specs.Links.{Pair}
 use Rattle.pn_layout.specs.declared.packages.Package.{Package}
 use Rattle.pn_layout.specs.Store.{store_of, dir_name, home_of}
-use Rattle.pn_layout.specs.Sound.{called}
 
 -- the marker of a managed folder
 abbrev pub marker_text : List ℕ
@@ -26,18 +25,18 @@ file_bytes (Some folder) = []
 file_bytes (Some (file bytes)) = bytes
 file_bytes (Some (link text)) = []
 
--- a package with the registry's files, and a link for each dependency to its package folder
+-- a package with the registry's files, and its links, each to a package folder
 abbrev pub instance_of : Tree → Path → Package → Instance
 instance_of r top p = record {
-  dir = dir_name (called p);
+  dir = dir_name p.id;
   name = id_name p.id;
   files = map (λ (f : Path). (f, file_bytes (r (f ++ p.folder)))) p.files.items;
-  links = map (λ (d : Pair). (d.0, home_of top d)) p.dependencies;
+  links = map (λ (l : Pair). (l.0, home_of top l.1)) p.links;
 }
 
--- a project's link to a direct dependency
+-- a link of a project
 abbrev pub top_of : Path → Pair → TopLink
-top_of top d = record { holder = top; name = d.0; target = home_of top d }
+top_of top l = record { holder = top; name = l.0; target = home_of top l.1 }
 
 -- The `node_modules` at top is managed and marked.
 abbrev pub plan_of : Tree → Path → List Pair → List Package → Plan

@@ -1,3 +1,5 @@
+pub mod Links
+pub mod Listed
 pub mod Store
 pub mod Sound
 pub mod Layout

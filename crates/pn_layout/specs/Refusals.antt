@@ -7,7 +7,7 @@ use Rattle.pn_text.specs.declared.limits.TheConstants.{PATH_LIMIT}
 use Rattle.pn_text.specs.Path.{Path, path_text}
 use Rattle.pn_fs.specs.Tree.{Entry, Tree}
 use Rattle.pn_node.specs.Plan.{Plan, InBuild}
-use Rattle.pn_manifest.specs.Pairs.{Pair}
+use Rattle.pn_layout.specs.Links.{Pair}
 use Rattle.pn_layout.specs.declared.packages.Package.{Package}
 use Rattle.pn_layout.specs.declared.fault.LayoutFault.{LayoutFault}
 use Rattle.pn_layout.specs.declared.fault.LayoutFault.TheVariants.{TooLong, Memory}

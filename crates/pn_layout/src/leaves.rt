@@ -1,17 +1,18 @@
 // What is planned for its own sake, added to a draft.
-ghost use Rattle.std.specs.Prelude.{◌≡◌, ◌++◌, ◌∷◌, ◌≤◌, [], List, IfOk, OnOk, map, length, string_bytes};
+ghost use Rattle.std.specs.Prelude.{◌≡◌, ◌++◌, ◌∷◌, ◌≤◌, [], List, IfOk, OnOk, map, length, true, string_bytes};
 ghost use Rattle.std.specs.List.{flat_map};
 ghost use Rattle.pn_text.specs.declared.limits.TheConstants.{PATH_LIMIT};
+ghost use Rattle.pn_text.specs.Ids.{is_id};
 ghost use Rattle.pn_text.specs.Path.{Path, path_text, SpellsParts};
-ghost use Rattle.pn_manifest.specs.Listed.{pair_of};
+ghost use Rattle.pn_layout.specs.Listed.{pair_of};
 ghost use Rattle.pn_layout.specs.Store.{dir_name, home_of};
-ghost use Rattle.pn_layout.specs.Sound.{called, IsSoundPackage, AreSound};
+ghost use Rattle.pn_layout.specs.Sound.{IsSoundPackage, AreSound};
 ghost use Rattle.pn_layout.specs.Leaves.{marker_leaf, top_leaf, file_leaf, link_leaf, package_leaves};
 ghost use Rattle.pn_layout.specs.Drawn.{Draws};
 
+use crate::links::Link;
 use crate::packages::Package;
-use crate::texts::{below, dir_text, up_from, way};
-use pn_manifest::Dependency;
+use crate::texts::{below, beside_text, dir_text, top_text, way};
 use pn_plan::{Draft, What};
 use pn_text::{AbsPath, Memory, PathFault, RelPath, Text};
 use std::alloc::{AllocError, Global};
@@ -30,7 +31,7 @@ pub fn add_tops(
     alloc: Global,
     draft: &mut Draft,
     modules: &AbsPath,
-    direct: &[Dependency],
+    direct: &[Link],
 ) -> Result<(), Memory>
     requires { draft.old.managed ≡ modules.now }
     ensures { OnOk result (Draws draft.old draft.new (map (top_leaf modules.now) (map pair_of direct.now))) }
@@ -59,20 +60,12 @@ pub fn add_packages(
 }
 
 // A project's link.
-fn add_top(
-    alloc: Global,
-    draft: &mut Draft,
-    modules: &AbsPath,
-    one: &Dependency,
-) -> Result<(), Memory>
+fn add_top(alloc: Global, draft: &mut Draft, modules: &AbsPath, one: &Link) -> Result<(), Memory>
     requires { draft.old.managed ≡ modules.now }
     ensures { OnOk result (Draws draft.old draft.new (top_leaf modules.now (pair_of one.now) ∷ [])) }
 {
-    let name = one.name.as_str();
-    let dir = dir_text(alloc, name, one.specifier.as_str())?;
-    let way = way(alloc, up_from(name), ".pnpm/", dir.as_str(), name)?;
-    let text = Text::of(alloc, way.as_str())?;
-    add(draft, modules, name, What::Link(text))
+    let text = top_text(alloc, one)?;
+    add(draft, modules, one.alias.as_str(), What::Link(text))
 }
 
 // A package.
@@ -86,24 +79,18 @@ fn add_package(
     requires sound { IsSoundPackage one.now }
     ensures { OnOk result (Draws draft.old draft.new (package_leaves modules.now one.now)) }
 {
-    let dir = dir_of(alloc, one)?;
+    let dir = dir_text(alloc, &one.id)?;
     let home = home_text(alloc, dir.as_str(), one)?;
     add_home(draft, modules, home.as_str(), one)?;
     add_files(alloc, draft, modules, home.as_str(), one)?;
     add_links(alloc, draft, modules, dir.as_str(), one)
 }
 
-// The name of a package's folder in the virtual store.
-fn dir_of(alloc: Global, one: &Package) -> Result<String, AllocError>
-    ensures { IfOk result (λ t. string_bytes t ≡ dir_name (called one.now)) }
-{
-    dir_text(alloc, one.id.name().as_str(), one.id.version_text())
-}
-
 // The package folder, below the managed folder.
 fn home_text(alloc: Global, dir: &str, one: &Package) -> Result<String, AllocError>
-    requires { dir.now ≡ dir_name (called one.now) }
-    ensures { IfOk result (λ t. SpellsParts (string_bytes t) (home_of [] (called one.now))) }
+    requires dir { dir.now ≡ dir_name one.now.id }
+    requires id { is_id one.now.id ≡ true }
+    ensures { IfOk result (λ t. SpellsParts (string_bytes t) (home_of [] one.now.id)) }
 {
     way(alloc, "", ".pnpm/", dir, one.id.name().as_str())
 }
@@ -111,8 +98,8 @@ fn home_text(alloc: Global, dir: &str, one: &Package) -> Result<String, AllocErr
 // The package folder itself.
 fn add_home(draft: &mut Draft, modules: &AbsPath, home: &str, one: &Package) -> Result<(), Memory>
     requires managed { draft.old.managed ≡ modules.now }
-    requires home { SpellsParts home.now (home_of [] (called one.now)) }
-    ensures { OnOk result (Draws draft.old draft.new ((home_of modules.now (called one.now), What.Folder) ∷ [])) }
+    requires home { SpellsParts home.now (home_of [] one.now.id) }
+    ensures { OnOk result (Draws draft.old draft.new ((home_of modules.now one.now.id, What.Folder) ∷ [])) }
 {
     add(draft, modules, home, What::Folder)
 }
@@ -126,9 +113,9 @@ fn add_files(
     one: &Package,
 ) -> Result<(), Memory>
     requires managed { draft.old.managed ≡ modules.now }
-    requires home { SpellsParts home.now (home_of [] (called one.now)) }
+    requires home { SpellsParts home.now (home_of [] one.now.id) }
     requires sound { IsSoundPackage one.now }
-    ensures { OnOk result (Draws draft.old draft.new (map (file_leaf modules.now (called one.now) one.now.folder) one.now.files.items)) }
+    ensures { OnOk result (Draws draft.old draft.new (map (file_leaf modules.now one.now.id one.now.folder) one.now.files.items)) }
 {
     for file in &one.files {
         add_file(alloc, draft, modules, home, one, file)?;
@@ -146,9 +133,9 @@ fn add_file(
     file: &RelPath,
 ) -> Result<(), Memory>
     requires managed { draft.old.managed ≡ modules.now }
-    requires home { SpellsParts home.now (home_of [] (called one.now)) }
+    requires home { SpellsParts home.now (home_of [] one.now.id) }
     requires short { length (path_text (file.now ++ one.now.folder)) ≤ PATH_LIMIT }
-    ensures { OnOk result (Draws draft.old draft.new (file_leaf modules.now (called one.now) one.now.folder file.now ∷ [])) }
+    ensures { OnOk result (Draws draft.old draft.new (file_leaf modules.now one.now.id one.now.folder file.now ∷ [])) }
 {
     let source = source_of(alloc, &one.folder, file)?;
     let tail = below(alloc, home, file.as_str())?;
@@ -167,7 +154,7 @@ fn source_of(alloc: Global, folder: &AbsPath, file: &RelPath) -> Result<AbsPath,
     }
 }
 
-// The links of a package's dependencies, beside it.
+// The links of a package, beside it.
 fn add_links(
     alloc: Global,
     draft: &mut Draft,
@@ -176,33 +163,32 @@ fn add_links(
     one: &Package,
 ) -> Result<(), Memory>
     requires managed { draft.old.managed ≡ modules.now }
-    requires dir { dir.now ≡ dir_name (called one.now) }
-    ensures { OnOk result (Draws draft.old draft.new (map (link_leaf modules.now (called one.now)) one.now.dependencies)) }
+    requires dir { dir.now ≡ dir_name one.now.id }
+    requires id { is_id one.now.id ≡ true }
+    ensures { OnOk result (Draws draft.old draft.new (map (link_leaf modules.now one.now.id) one.now.links)) }
 {
-    for dependency in one.dependencies.as_slice() {
-        add_link(alloc, draft, modules, dir, one, dependency)?;
+    for link in one.links.as_slice() {
+        add_link(alloc, draft, modules, dir, one, link)?;
     }
     Ok(())
 }
 
-// A dependency's link.
+// A link of a package.
 fn add_link(
     alloc: Global,
     draft: &mut Draft,
     modules: &AbsPath,
     dir: &str,
     one: &Package,
-    dependency: &Dependency,
+    link: &Link,
 ) -> Result<(), Memory>
     requires managed { draft.old.managed ≡ modules.now }
-    requires dir { dir.now ≡ dir_name (called one.now) }
-    ensures { OnOk result (Draws draft.old draft.new (link_leaf modules.now (called one.now) (pair_of dependency.now) ∷ [])) }
+    requires dir { dir.now ≡ dir_name one.now.id }
+    requires id { is_id one.now.id ≡ true }
+    ensures { OnOk result (Draws draft.old draft.new (link_leaf modules.now one.now.id (pair_of link.now) ∷ [])) }
 {
-    let name = dependency.name.as_str();
-    let target = dir_text(alloc, name, dependency.specifier.as_str())?;
-    let way_to = way(alloc, up_from(name), "../../", target.as_str(), name)?;
-    let text = Text::of(alloc, way_to.as_str())?;
-    let tail = way(alloc, "", ".pnpm/", dir, name)?;
+    let text = beside_text(alloc, &one.id, link)?;
+    let tail = way(alloc, "", ".pnpm/", dir, link.alias.as_str())?;
     add(draft, modules, tail.as_str(), What::Link(text))
 }
 

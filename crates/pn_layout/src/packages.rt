@@ -1,14 +1,14 @@
 // The packages of an install.
 
-use pn_manifest::Dependencies;
+use crate::links::Links;
 use pn_text::{AbsPath, PkgId, RelPath};
 
-/// A package: its id, its dependencies but one on its own name, its folder in the registry, and its
+/// A package: its id, its links, none of them under its own name, its folder in the registry, and its
 /// files, by their paths below that folder.
 #[derive(Drop)]
 pub struct Package {
     pub id: PkgId,
-    pub dependencies: Dependencies,
+    pub links: Links,
     pub folder: AbsPath,
     pub files: Vec<RelPath>,
 }

@@ -6,29 +6,29 @@ ghost use Rattle.pn_fs.specs.Tree.{Entry, Tree};
 ghost use Rattle.pn_node.specs.Plan.{InBuild};
 ghost use Rattle.pn_plan.specs.Drawing.{drawn};
 ghost use Rattle.pn_plan.specs.Entries.{drawing};
-ghost use Rattle.pn_layout.specs.Sound.{AreSound, AreSoundDependencies, FilesStand};
+ghost use Rattle.pn_layout.specs.Sound.{AreSound, AreSoundLinks, FilesStand};
 ghost use Rattle.pn_layout.specs.Layout.{plan_of, IsLaidOut, IsClosed};
 ghost use Rattle.pn_layout.specs.Leaves.{leaves_of};
 ghost use Rattle.pn_layout.specs.Refusals.{LayoutRefused};
 
 use crate::fault::LayoutFault;
 use crate::leaves::{add_marker, add_packages, add_tops};
+use crate::links::Links;
 use crate::packages::Package;
-use pn_manifest::Dependencies;
 use pn_plan::{Draft, DraftFault, PlannedTree};
 use pn_text::{AbsPath, Memory};
 use std::alloc::Global;
 
-/// Plans the `node_modules` of one project: its marker, a link for each direct dependency, and the
-/// packages in the virtual store. Refuses with `TooLong` where a planned path has more than 4,096
+/// Plans the `node_modules` of one project: its marker, its links, and the packages in the virtual
+/// store. Refuses with `TooLong` where a planned path has more than 4,096
 /// bytes, or with `Memory`.
 pub fn layout(
     alloc: Global,
     modules: &AbsPath,
-    direct: &Dependencies,
+    direct: &Links,
     packages: &[Package],
 ) -> Result<PlannedTree, LayoutFault>
-    requires direct { AreSoundDependencies direct.now }
+    requires direct { AreSoundLinks direct.now }
     requires packages { AreSound packages.now }
     ensures build { IfOk result (λ planned. (r : Tree) → FilesStand r packages.now → IsLaidOut r (plan_of r modules.now direct.now packages.now) planned) }
     ensures closed { IfOk result (IsClosed modules.now packages.now) }
@@ -47,7 +47,7 @@ pub fn layout(
 fn draft_of(
     alloc: Global,
     modules: &AbsPath,
-    direct: &Dependencies,
+    direct: &Links,
     packages: &[Package],
 ) -> Result<Draft, Memory>
     requires { AreSound packages.now }

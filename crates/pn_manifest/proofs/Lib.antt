@@ -1,3 +1,11 @@
 pub mod Levels
 pub mod Rising
-pub mod ExactIds
+pub mod PeerLemmas
+pub mod LastPartLemmas
+pub mod IsNextLemmas
+pub mod FirstWrongLemmas
+pub mod OrderedLemmas
+pub mod TextOfLemmas
+pub mod FlaggedLemmas
+pub mod PeerOfLemmas
+pub mod ManifestLawLemmas

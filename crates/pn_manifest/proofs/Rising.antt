@@ -1,20 +1,25 @@
 -- Names in byte order, each once.
-use Rattle.std.proofs.Common.{◌≡◌, ℕ, List, [], ◌∷◌, String, Global, string_bytes, string_cmp, nat_cmp, Less, not, true, false, Bool, cond, Option, filter, refl, sym, ap, ◌∙◌, subst}
-use Rattle.std.specs.Prelude.{None}
+use Rattle.std.proofs.Common.{◌≡◌, ℕ, List, [], ◌∷◌, String, Global, string_bytes, string_cmp, nat_cmp, Less, true, false, Bool}
+use Rattle.std.specs.Prelude.{if◌then◌else◌}
 use Rattle.std.specs.Cmp.Lexicographic.{slice_cmp}
 use Rattle.std.specs.List.{AllByRecursion}
 use Rattle.std.specs.List.Sorted.{IsStrictlySortedBy}
 use Rattle.std.specs.Map.{keys_of}
-use Rattle.std.proofs.lemmas.List.Kept.{IsStrictlySortedBy-filter}
 use Rattle.serde_json.specs.Data.{Data, null, boolean, number, string, array, object}
 use Rattle.serde_json.specs.View.{view, members_view}
 use Rattle.serde_json.specs.declared.value.Value.{Value}
-use Rattle.pn_manifest.specs.Fields.{pairs, pair_with}
-use Rattle.pn_manifest.specs.Pairs.{Pair, names, IsRising, is_own, but_own}
+use Rattle.pn_manifest.specs.TextMaps.{pairs, pair_with}
+use Rattle.pn_manifest.specs.FlagMaps.{flagged, has_flag}
+use Rattle.pn_manifest.specs.Said.{AreRising}
+use Rattle.pn_manifest.specs.Pairs.{Pair, names, IsRising}
 
 pub rising_nil : IsRising []
 unfolding IsStrictlySortedBy
 rising_nil = tt
+
+pub rising_one : (e : Pair) → IsRising (e ∷ [])
+unfolding IsStrictlySortedBy
+rising_one e = (tt, tt)
 
 all_with : (P : List ℕ → Type 0) (k : List ℕ) (d : Data) (rest : List Pair) → P k → AllByRecursion P (names rest) → AllByRecursion P (names (pair_with k d rest))
 all_with P k null rest p h = h
@@ -44,19 +49,22 @@ rising_pairs [] h = tt
 rising_pairs (e ∷ es) h =
     rising_with (string_bytes e.0) (view e.1) (pairs (members_view es)) (all_pairs (λ y. slice_cmp nat_cmp (string_bytes e.0) y ≡ Less) es h.0) (rising_pairs es h.1)
 
-names_if : (p : List ℕ → Bool) (e : Pair) (es : List Pair) (b : Bool) → names (cond b (e ∷ es) es) ≡ cond b (e.0 ∷ names es) (names es)
-names_if p e es true = refl
-names_if p e es false = refl
+all_if : (P : List ℕ → Type 0) (b : Bool) (k : List ℕ) (rest : List (List ℕ)) → P k → AllByRecursion P rest → AllByRecursion P (if b then k ∷ rest else rest)
+all_if P true k rest p h = (p, h)
+all_if P false k rest p h = h
 
-names_filter : (p : List ℕ → Bool) (es : List Pair) → names (filter (λ (e : Pair). p e.0) es) ≡ filter p (names es)
-names_filter p [] = refl
-names_filter p (e ∷ es) = names_if p e (filter (λ (e : Pair). p e.0) es) (p e.0) ∙ ap (λ ns. cond (p e.0) (e.0 ∷ ns) ns) (names_filter p es)
+all_flagged : (P : List ℕ → Type 0) (flag : List ℕ) (es : List (String Global × Value)) → AllByRecursion (λ y. P (string_bytes y)) (keys_of es) → AllByRecursion P (flagged flag (members_view es))
+all_flagged P flag [] h = tt
+all_flagged P flag (e ∷ es) h = all_if P (has_flag flag (view e.1)) (string_bytes e.0) (flagged flag (members_view es)) h.0 (all_flagged P flag es h.1)
 
-pub rising_but_own : (own : Option (List ℕ)) (es : List Pair) → IsRising es → IsRising (but_own own es)
-rising_but_own own es h =
-    subst (IsStrictlySortedBy (slice_cmp nat_cmp)) (sym (names_filter (λ x. not (is_own own x)) es)) (IsStrictlySortedBy-filter (slice_cmp nat_cmp) (λ x. not (is_own own x)) (names es) h)
+rising_if : (b : Bool) (k : List ℕ) (rest : List (List ℕ)) → AllByRecursion (λ y. slice_cmp nat_cmp k y ≡ Less) rest → AreRising rest → AreRising (if b then k ∷ rest else rest)
+unfolding IsStrictlySortedBy
+rising_if true k rest a h = (a, h)
+rising_if false k rest a h = h
 
--- with no name of its own, nothing is left out
-pub but_none : (es : List Pair) → but_own None es ≡ es
-but_none [] = refl
-but_none (e ∷ es) = ap (λ r. e ∷ r) (but_none es)
+-- the names in an object whose flag is true are keys of it
+pub rising_flagged : (flag : List ℕ) (es : List (String Global × Value)) → IsStrictlySortedBy string_cmp (keys_of es) → AreRising (flagged flag (members_view es))
+unfolding IsStrictlySortedBy
+rising_flagged flag [] h = tt
+rising_flagged flag (e ∷ es) h =
+    rising_if (has_flag flag (view e.1)) (string_bytes e.0) (flagged flag (members_view es)) (all_flagged (λ y. slice_cmp nat_cmp (string_bytes e.0) y ≡ Less) flag es h.0) (rising_flagged flag es h.1)

@@ -1,7 +1,15 @@
 pub mod Pairs
+pub mod Said
+pub mod Values
+pub mod TextMaps
+pub mod FlagMaps
+pub mod PeerLists
+pub mod Commands
+pub mod Overrides
 pub mod Fields
-pub mod Exact
+pub mod Laws
 pub mod Text
 pub mod Listed
+pub mod NextPeers
 pub mod Says
 pub mod Refusals

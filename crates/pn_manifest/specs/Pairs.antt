@@ -1,11 +1,11 @@
--- Dependencies as names with specifiers.
-use Rattle.std.specs.Prelude.{ℕ, List, Bool, false, not, Option, Some, None, map, filter}
+-- Names with texts.
+use Rattle.std.specs.Prelude.{ℕ, List, Bool, false, Option, Some, None, map}
 use Rattle.std.specs.Cmp.Lexicographic.{slice_cmp}
 use Rattle.std.specs.List.Sorted.{IsStrictlySortedBy}
 use Rattle.std.specs.Ordering.{nat_cmp}
 use Rattle.std.specs.Str.{bytes_eq}
 
--- a name, and the specifier under it
+-- a name or another text, and the text under it
 abbrev pub Pair : Type 0
 Pair = List ℕ × List ℕ
 
@@ -20,7 +20,3 @@ IsRising pairs = IsStrictlySortedBy (slice_cmp nat_cmp) (names pairs)
 abbrev pub is_own : Option (List ℕ) → List ℕ → Bool
 is_own None name = false
 is_own (Some own) name = bytes_eq own name
-
--- those under another name
-abbrev pub but_own : Option (List ℕ) → List Pair → List Pair
-but_own own pairs = filter (λ (e : Pair). not (is_own own e.0)) pairs

@@ -1,7 +1,7 @@
 // The fields of a JSON object.
 ghost use Rattle.std.specs.Prelude.{◌≡◌, option_map, Some, is_none};
 ghost use Rattle.serde_json.specs.View.{view};
-ghost use Rattle.pn_manifest.specs.Fields.{filled, field, stands};
+ghost use Rattle.pn_manifest.specs.Values.{filled, field};
 
 use serde_json::Value;
 
@@ -22,19 +22,6 @@ fn is_empty(value: &Value) -> bool
     }
     match value.as_array() {
         Some(items) => items.as_slice().is_empty(),
-        None => false,
-    }
-}
-
-/// Whether a field is neither nothing nor an empty object.
-pub fn is_filled(object: &Value, key: &str) -> bool
-    ensures { result ≡ stands (field key.now (view object.now)) }
-{
-    match field(object, key) {
-        Some(found) => match found.as_object() {
-            Some(members) => !members.is_empty(),
-            None => true,
-        },
         None => false,
     }
 }

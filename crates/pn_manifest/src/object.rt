@@ -4,13 +4,13 @@ ghost use Rattle.serde_json.specs.View.{view};
 ghost use Rattle.semver.specs.Identifiers.{parts_of};
 ghost use Rattle.pn_text.specs.Ids.{is_version, parts_text};
 ghost use Rattle.pn_text.specs.Name.{is_name};
-ghost use Rattle.pn_manifest.specs.Fields.{field, name_of, version_of, wrong_text, first_later};
+ghost use Rattle.pn_manifest.specs.Fields.{field, name_of, version_of, wrong_text};
 ghost use Rattle.pn_manifest.specs.Text.{IsObjectText};
 ghost use Rattle.pn_manifest.specs.Refusals.{IsNoObject, IsWrong};
 
 use crate::fault::{ManifestFault, ManifestWhy, bad_field};
-use crate::fields::{field, is_filled};
-use pn_text::{NameFault, PkgName, Text};
+use crate::fields::field;
+use pn_text::{NameFault, PkgName};
 use semver::Version;
 use serde_json::Value;
 use std::alloc::{AllocError, Global};
@@ -65,23 +65,4 @@ pub fn read_version(alloc: Global, object: &Value) -> Result<Option<Version>, Ma
         Err(e) if e == semver::Error::from(AllocError) => Err(ManifestFault::Memory),
         Err(_) => Err(bad_field(alloc, "version", "")),
     }
-}
-
-/// The first field that stands and isn't read yet, `devDependencies` aside.
-pub fn first_later(alloc: Global, object: &Value) -> Result<Option<Text>, ManifestFault>
-    ensures ok { IfOk result (λ o. o ≡ first_later (view object.now)) }
-    ensures fault { IfErr result (λ e. e ≡ ManifestFault.Memory) }
-{
-    let key = if is_filled(object, "optionalDependencies") {
-        "optionalDependencies"
-    } else if is_filled(object, "peerDependencies") {
-        "peerDependencies"
-    } else if is_filled(object, "peerDependenciesMeta") {
-        "peerDependenciesMeta"
-    } else if is_filled(object, "pnpm") {
-        "pnpm"
-    } else {
-        return Ok(None);
-    };
-    Ok(Some(Text::of(alloc, key)?))
 }

@@ -18,12 +18,13 @@ use Rattle.pn_walk.specs.Walks.{Turn, Lands, LandsAt, Meets, Takes, place_of}
 use Rattle.pn_walk.specs.WalkLaws.{AreSettled, AreApart}
 use Rattle.pn_published.specs.Shelves.{Shelf}
 use Rattle.pn_plain.specs.Given.{Given, held_of, version_of}
-use Rattle.pn_plain.specs.Readings.{Reading, of_package, of_project, no_entry, reading, Bearer, one, nobody, two}
+use Rattle.pn_plain.specs.Readings.{Reading, of_package, of_project, no_entry, not_built, reading, built, Bearer, one, nobody, two}
+use Rattle.pn_spec.specs.declared.spec.Spec.{Spec}
 use Rattle.pn_plain.specs.Aims.{Found, Chooses, Borne, ReadingLeads, Reads, LeadsBy, Leads, bearer_of}
-use Rattle.pn_plain.specs.Causes.{Cause, unsupported, no_catalog, no_project, two_projects, registry, no_version, packages, Shown, NoVersion, NoProject, ReadingRefused, NotMet, Refused, no_form, no_aim, not_met}
+use Rattle.pn_plain.specs.Causes.{Cause, unsupported, unbuilt, no_catalog, no_project, two_projects, registry, no_version, packages, Shown, NoVersion, NoProject, ReadingRefused, NotMet, Refused, no_form, no_aim, not_met}
 
 one_reading : (g : Given) (w : Wish) (r q : Reading) → Reads g w r → Reads g w q → r ≡ q
-one_reading g w r q a b = a.is ∙ ap (reading g.catalogs w.alias) (readings.one w.specifier a.spec b.spec a.says b.says) ∙ sym b.is
+one_reading g w r q a b = a.is ∙ ap (λ (x : Spec). built g.spaces (reading g.catalogs w.alias x)) (readings.one w.specifier a.spec b.spec a.says b.says) ∙ sym b.is
 
 one_choice : {F : Type 0} (P : List ℕ → Shelf → Type 0) (U : List ℕ → F → Type 0) (N : Node → Type 0) (R : Id → F → Type 0) → Shown P U N R → (g : Given) (n : List ℕ) (w : Want) (a b : Option Parts) → Chooses P g n w a → Chooses P g n w b → a ≡ b
 one_choice P U N R s g n w a b x y = x.is ∙ ap (λ (p : Shelf). version_of p (held_of n g.held) w) (s.one_shelf n x.shelf y.shelf x.shows y.shows) ∙ sym y.is
@@ -44,6 +45,7 @@ leads_once P U N R s g o (of_package n w) a b x y =
     found_once n o y.0 a b (subst (λ (f : Option Parts). Found n o f a) same x.2) y.2
 leads_once P U N R s g o (of_project n w) a b x y = borne_once o (bearer_of g n w) a b x y
 leads_once P U N R s g o no_entry a b x y = absurd x
+leads_once P U N R s g o not_built a b x y = absurd x
 
 one_aim_by : {F : Type 0} (P : List ℕ → Shelf → Type 0) (U : List ℕ → F → Type 0) (N : Node → Type 0) (R : Id → F → Type 0) → Shown P U N R → (g : Given) (w : Wish) (c : Option Id) (a b : Option Aim)
     → LeadsBy P g w c a → LeadsBy P g w c b → a ≡ b
@@ -62,6 +64,7 @@ data Lack {F : Type 0} (P : List ℕ → Shelf → Type 0) (U : List ℕ → F �
 
 lack : {F : Type 0} (P : List ℕ → Shelf → Type 0) (U : List ℕ → F → Type 0) (g : Given) (o : Bool) (n : List ℕ) (w : Want) (f : Cause F) → NoVersion P U g o n w f → Lack P U g o n w f
 lack P U g o n w unsupported h = absurd h
+lack P U g o n w unbuilt h = absurd h
 lack P U g o n w no_catalog h = absurd h
 lack P U g o n w no_project h = absurd h
 lack P U g o n w (two_projects k j) h = absurd h
@@ -89,6 +92,7 @@ data Bare {F : Type 0} (o : Bool) (b : Bearer) (f : Cause F) : Type 0 where
 
 bare : {F : Type 0} (o : Bool) (b : Bearer) (f : Cause F) → NoProject o b f → Bare o b f
 bare o b unsupported h = absurd h
+bare o b unbuilt h = absurd h
 bare o b no_catalog h = absurd h
 bare o b no_project h = alone h.0 h.1 refl
 bare o b (two_projects k j) h = twice k j h refl
@@ -124,12 +128,14 @@ one_refusal : {F : Type 0} (P : List ℕ → Shelf → Type 0) (U : List ℕ →
 one_refusal P U N R s g o (of_package n w) f h x y = one_lack P U N R s g o n w f h (lack P U g o n w f x) (lack P U g o n w h y)
 one_refusal P U N R s g o (of_project n w) f h x y = one_bare o (bearer_of g n w) f h (bare o (bearer_of g n w) f x) (bare o (bearer_of g n w) h y)
 one_refusal P U N R s g o no_entry f h x y = x ∙ sym y
+one_refusal P U N R s g o not_built f h x y = x ∙ sym y
 
 no_refusal : {F : Type 0} (P : List ℕ → Shelf → Type 0) (U : List ℕ → F → Type 0) (N : Node → Type 0) (R : Id → F → Type 0) → Shown P U N R → (g : Given) (o : Bool) (r : Reading) (f : Cause F) (aim : Option Aim)
     → ReadingLeads P g o r aim → ReadingRefused P U g o r f → ⊥
 no_refusal P U N R s g o (of_package n w) f aim x y = no_lack P U N R s g o n w f x.0 aim x.1 x.2 (lack P U g o n w f y)
 no_refusal P U N R s g o (of_project n w) f aim x y = no_bare o (bearer_of g n w) f aim x (bare o (bearer_of g n w) f y)
 no_refusal P U N R s g o no_entry f aim x y = x
+no_refusal P U N R s g o not_built f aim x y = x
 
 -- a wish that leads somewhere has a form
 has_form : (P : List ℕ → Shelf → Type 0) (g : Given) (w : Wish) (aim : Option Aim) → w.chosen ≡ None → FitsNoForm (trimmed w.specifier) → Leads P g w aim → ⊥
@@ -150,6 +156,7 @@ data Unmet {F : Type 0} (N : Node → Type 0) (R : Id → F → Type 0) (met : L
 
 unmet : {F : Type 0} (N : Node → Type 0) (R : Id → F → Type 0) (met : List Node) (i : Id) (f : Cause F) → NotMet N R met i f → Unmet N R met i f
 unmet N R met i unsupported h = absurd h
+unmet N R met i unbuilt h = absurd h
 unmet N R met i no_catalog h = absurd h
 unmet N R met i no_project h = absurd h
 unmet N R met i (two_projects k j) h = absurd h

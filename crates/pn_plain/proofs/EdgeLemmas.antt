@@ -13,11 +13,11 @@ use Rattle.pn_walk.specs.Wants.{Id}
 use Rattle.pn_walk.specs.Walks.{Turn, LandsAt, place_of}
 use Rattle.pn_published.specs.Shelves.{Shelf}
 use Rattle.pn_plain.specs.Aims.{Chooses, Borne, ReadingLeads, Reads, Leads, LeadsBy, bearer_of, id_at}
-use Rattle.pn_plain.specs.Causes.{Cause, unsupported, no_catalog, no_project, two_projects, registry, no_version, packages, ReadingRefused, NoProject, no_form, no_aim, not_met}
+use Rattle.pn_plain.specs.Causes.{Cause, unsupported, unbuilt, no_catalog, no_project, two_projects, registry, no_version, packages, ReadingRefused, NoProject, no_form, no_aim, not_met}
 use Rattle.pn_plain.specs.EdgeLaws.{IsReadable, IsTotal, IsTaken, IsRefused, EdgeLaw}
 use Rattle.pn_plain.specs.Given.{Given, held_of, version_of}
-use Rattle.pn_plain.specs.Readings.{Reading, of_package, of_project, no_entry, reading, Bearer, one, nobody, two}
-use Rattle.pn_plain.specs.Said.{Said}
+use Rattle.pn_plain.specs.Readings.{Reading, of_package, of_project, no_entry, not_built, reading, built, Bearer, one, nobody, two}
+use Rattle.pn_manifest.specs.Said.{Said}
 use Rattle.pn_plain.specs.Seen.{a_package, one_map, dependency_names, dropped, wishes_of}
 use Rattle.pn_plain.specs.Told.{Told, IsToldShelf, IsGap, IsToldNode}
 
@@ -52,6 +52,7 @@ aim_or_not t g o (of_project n w) = elim (borne_or_not o (bearer_of g n w)) [
   | inr f ↦ inr (record { cause = f.0; why = f.1 })
 ]
 aim_or_not t g o no_entry = inr (record { cause = no_catalog; why = refl })
+aim_or_not t g o not_built = inr (record { cause = unbuilt; why = refl })
 
 -- a package that isn't met yet
 new_or_not : (t : Told) → IsTotal t → (g : Given) (met : List Node) (e : Turn) (i : Id) → Leads (IsToldShelf t) g e.wish (Some (to_package i)) → place_of i met ≡ None
@@ -99,7 +100,7 @@ landed_or_not t total g met e (Some (to_package i)) leads = met_or_not t total g
 read_or_not : (t : Told) → IsTotal t → (g : Given) (met : List Node) (e : Turn) → e.wish.chosen ≡ None → IsReadable e.wish.specifier → IsTaken t g met e.wish ⊎ IsRefused t g met e
 read_or_not t total g met e none (inr fits) = inr (record { cause = unsupported; why = no_form none fits refl })
 read_or_not t total g met e none (inl s) =
-    let r = reading g.catalogs e.wish.alias s.0 in
+    let r = built g.spaces (reading g.catalogs e.wish.alias s.0) in
     let reads : Reads g e.wish r = record { spec = s.0; says = s.1; is = refl } in
     elim (aim_or_not t g e.wish.optional r) [
       | inl a ↦ landed_or_not t total g met e a.aim (subst (λ (o : Option Id). LeadsBy (IsToldShelf t) g e.wish o a.aim) (sym none) (r, reads, a.leads))

@@ -1,5 +1,5 @@
 -- Small plain graphs, edge by edge.
-use Rattle.std.proofs.Common.{◌≡◌, ℕ, true, false, List, [], ◌∷◌, Option, Some, None, refl, arith, map, ◌++◌, inr, codes, Ok}
+use Rattle.std.proofs.Common.{◌≡◌, ℕ, Bool, true, false, List, [], ◌∷◌, Option, Some, None, refl, arith, map, ◌++◌, inr, codes, Ok}
 use Rattle.std.specs.Fmt.{digits}
 use Rattle.pn_ranges.proofs.Stopped.{no-byte, ranges-form}
 use Rattle.pn_text.proofs.Bytes.{same_first}
@@ -20,9 +20,10 @@ use Rattle.pn_plain.specs.Aims.{Leads, id_at}
 use Rattle.pn_plain.specs.Causes.{unsupported, no_version, no_catalog, no_project, two_projects, registry, no_form, no_aim, not_met}
 use Rattle.pn_plain.specs.GraphRows.{no_versions, one_version, said_of, latest_of, small, asks, asked, link_to, b_met, x_met, y_met, twins, GraphRows}
 use Rattle.pn_plain.specs.Plains.{Inputs, given_by, AreStarts, no_more, one_more}
-use Rattle.pn_plain.specs.Readings.{of_package, of_project, no_entry}
+use Rattle.pn_plain.specs.Readings.{of_package, of_project, no_entry, built}
 use Rattle.pn_plain.specs.Rows.{said_with, release}
-use Rattle.pn_plain.specs.Said.{Pair, Said}
+use Rattle.pn_manifest.specs.Pairs.{Pair}
+use Rattle.pn_manifest.specs.Said.{Said}
 use Rattle.pn_plain.specs.Seen.{a_project, a_package, seen, wish, wishes_of}
 use Rattle.pn_plain.specs.Told.{IsToldShelf, IsToldNode, IsToldPlain, IsToldUnplain, IsOverridden}
 
@@ -87,12 +88,17 @@ y_is = node_is y_met (said_of (codes "y") (latest_of (codes "x") ∷ [])) refl r
 abbrev leads_in : Inputs → Wish → Option Aim → Type 0
 leads_in i = Leads (IsToldShelf small) (given_by i)
 
+-- a wish for a package's version is built everywhere
+is_built : (spaces : Bool) (n : List ℕ) (w : Want) → of_package n w ≡ built spaces (of_package n w)
+is_built true n w = refl
+is_built false n w = refl
+
 -- a wish for `npm:b@latest` leads to b
 leads_to_b : (i : Inputs) (alias : List ℕ) → leads_in i (asked false alias (codes "npm:b@latest")).wish (Some (to_package (codes "b@1.0.0")))
 unfolding digits
 leads_to_b i alias = (
   of_package (codes "b") latest,
-  record { spec = spec.Alias (codes "b") latest; says = alias_spec; is = refl },
+  record { spec = spec.Alias (codes "b") latest; says = alias_spec; is = is_built i.spaces (codes "b") latest },
   (Some (release 1 0 0), record { shelf = one_version; shows = refl; is = refl }, refl),
 )
 
@@ -100,7 +106,7 @@ leads_to_b i alias = (
 a_absent : (i : Inputs) → leads_in i (asked true (codes "a") (codes "latest")).wish None
 a_absent i = (
   of_package (codes "a") latest,
-  record { spec = spec.Tag (codes "latest"); says = latest_spec; is = refl },
+  record { spec = spec.Tag (codes "latest"); says = latest_spec; is = is_built i.spaces (codes "a") latest },
   (None, record { shelf = no_versions; shows = refl; is = refl }, (refl, refl)),
 )
 
@@ -377,7 +383,7 @@ formless_row = record {
 leads_latest : (i : Inputs) (n : List ℕ) → small.shelf n ≡ Ok one_version → leads_in i (wish false (latest_of n)) (Some (to_package (id_at n (release 1 0 0))))
 leads_latest i n shows = (
   of_package n latest,
-  record { spec = spec.Tag (codes "latest"); says = latest_spec; is = refl },
+  record { spec = spec.Tag (codes "latest"); says = latest_spec; is = is_built i.spaces n latest },
   (Some (release 1 0 0), record { shelf = one_version; shows = shows; is = refl }, refl),
 )
 

@@ -3,7 +3,7 @@ use Rattle.std.proofs.Common.{◌≡◌, ℕ, ◌∷◌, suc, Bool, List, ◌++�
 use Rattle.std.specs.Prelude.{Result, Ok, Err}
 use Rattle.pn_walk.specs.declared.wish.Wish.{Wish}
 use Rattle.pn_walk.specs.declared.node.Node.{Node}
-use Rattle.pn_walk.specs.declared.node.Peer.{Peer}
+use Rattle.pn_manifest.specs.declared.peers.Peer.{Peer}
 use Rattle.pn_walk.specs.declared.wish.Place.TheVariants.{Project as at_project}
 use Rattle.pn_walk.specs.Wants.{Id}
 use Rattle.pn_walk.specs.Walks.{Turn, State, turn_by, start, Walk, IsWalked, IsStopped}
@@ -13,7 +13,7 @@ use Rattle.pn_walk.proofs.GraphLemmas.{graph, refused_edge}
 use Rattle.pn_published.specs.Shelves.{Shelf}
 use Rattle.pn_plain.specs.Aims.{Leads}
 use Rattle.pn_plain.specs.Causes.{Cause, Shown, Refused}
-use Rattle.pn_plain.specs.Said.{Said}
+use Rattle.pn_manifest.specs.Said.{Said}
 use Rattle.pn_plain.specs.Seen.{Owner, a_project, a_package, Hook, Rules, one_map, dependency_names, dropped, counted, wishes_of, IsSeen}
 use Rattle.pn_plain.specs.Plains.{Project, Inputs, given_by, IsNode, AreStarts, no_more, one_more, IsPlain, IsUnplain}
 use Rattle.pn_plain.specs.PlainLaws.{PlainLaw}

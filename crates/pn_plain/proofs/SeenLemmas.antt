@@ -8,9 +8,10 @@ use Rattle.std.proofs.lemmas.List.Elements.{All-contains, All-contains_itself, A
 use Rattle.std.proofs.lemmas.Map.Views.{Contains-from_any}
 use Rattle.pn_text.proofs.Bools.{true_false, not_true, or_right}
 use Rattle.pn_text.proofs.Members.{none_in, in_one, in_cons, here, there, from_map, to_map}
-use Rattle.pn_walk.specs.declared.node.Peer.{Peer}
-use Rattle.pn_plain.specs.Said.{Pair, Said}
-use Rattle.pn_plain.specs.Seen.{Owner, names, is_among, but, peers_but, own_names, dev_of, one_map, dependency_names, dropped, no_hook, no_rules, IsSeen}
+use Rattle.pn_manifest.specs.declared.peers.Peer.{Peer}
+use Rattle.pn_manifest.specs.Pairs.{Pair, names}
+use Rattle.pn_manifest.specs.Said.{Said}
+use Rattle.pn_plain.specs.Seen.{Owner, is_among, but, peers_but, own_names, dev_of, one_map, dependency_names, dropped, no_hook, no_rules, IsSeen}
 use Rattle.pn_plain.specs.SeenLaws.{IsIn, IsDependency, SeenWords, IsOnce, AddsNone, HasNoOwn, SeenLaw}
 use Rattle.pn_plain.specs.Told.{Told, IsOverridden, IsToldSeen}
 use Rattle.pn_plain.proofs.PlainLemmas.{one_seen, told_rules}

@@ -14,12 +14,13 @@ use Rattle.std.proofs.lemmas.Map.Lookups.{exact_bytes}
 use Rattle.std.proofs.lemmas.Map.Views.{All-after_first}
 use Rattle.pn_text.proofs.Members.{none_in, in_cons, here, there, from_map, to_map}
 use Rattle.pn_text.proofs.Orders.{is_less, not_before_self}
-use Rattle.pn_walk.specs.declared.node.Peer.{Peer}
+use Rattle.pn_manifest.specs.declared.peers.Peer.{Peer}
 use Rattle.pn_walk.specs.declared.wish.Wish.{Wish}
-use Rattle.pn_plain.specs.Said.{Pair, Said}
-use Rattle.pn_plain.specs.Seen.{Owner, a_project, a_package, names, is_among, but, peers_but, own_names, dev_of, one_map, dependency_names, dropped, no_hook, no_rules, IsSeen, wish, put_wish, put_wishes, wishes_of}
+use Rattle.pn_manifest.specs.Pairs.{Pair, names}
+use Rattle.pn_manifest.specs.Said.{Said, AreRising, peer_names, IsRisingSaid}
+use Rattle.pn_plain.specs.Seen.{Owner, a_project, a_package, is_among, but, peers_but, own_names, dev_of, one_map, dependency_names, dropped, no_hook, no_rules, IsSeen, wish, put_wish, put_wishes, wishes_of}
 use Rattle.pn_plain.specs.SeenLaws.{IsIn, IsOnce}
-use Rattle.pn_plain.specs.WishLaws.{AreRising, aliases, peer_names, IsRisingSaid, IsWishOf, regular, dev, optional, WishLaw}
+use Rattle.pn_plain.specs.WishLaws.{aliases, IsWishOf, regular, dev, optional, WishLaw}
 use Rattle.pn_plain.proofs.SeenLemmas.{in_names}
 
 -- what is put in, and what was there
@@ -105,7 +106,7 @@ put_rises w (y ∷ ys) h n = elim (is_lt (slice_cmp nat_cmp w.alias y.alias)) as
 head_once : (a : List ℕ) (bs : List (List ℕ)) → AreRising (a ∷ bs) → Contains bs a → ⊥
 head_once a bs h c = not_before_self a (All-contains (λ (b : List ℕ). slice_cmp nat_cmp a b ≡ Less) bs a (All-after_first (slice_cmp nat_cmp) a bs h) c)
 
-alias_in : (ws rest : List Wish) (n : List ℕ) → Contains (aliases (put_wishes ws rest)) n → Contains (aliases ws) n ⊎ Contains (aliases rest) n
+pub alias_in : (ws rest : List Wish) (n : List ℕ) → Contains (aliases (put_wishes ws rest)) n → Contains (aliases ws) n ⊎ Contains (aliases rest) n
 alias_in ws rest n h =
     let m = from_map (λ (w : Wish). w.alias) (put_wishes ws rest) n h in
     elim (from_puts ws rest m.0 m.1) [
@@ -113,7 +114,7 @@ alias_in ws rest n h =
       | inr d ↦ inr (subst (λ (a : List ℕ). Contains (aliases rest) a) m.2 (to_map (λ (w : Wish). w.alias) rest m.0 d))
     ]
 
-puts_rise : (ws rest : List Wish) → AreRising (aliases ws) → AreRising (aliases rest) → ((n : List ℕ) → Contains (aliases ws) n → Contains (aliases rest) n → ⊥) → AreRising (aliases (put_wishes ws rest))
+pub puts_rise : (ws rest : List Wish) → AreRising (aliases ws) → AreRising (aliases rest) → ((n : List ℕ) → Contains (aliases ws) n → Contains (aliases rest) n → ⊥) → AreRising (aliases (put_wishes ws rest))
 unfolding IsStrictlySortedBy
 puts_rise [] rest h k apart = k
 puts_rise (w ∷ ws) rest h k apart =
@@ -128,10 +129,10 @@ aliases_are : (o : Bool) (pairs : List Pair) → aliases (map (wish o) pairs) �
 aliases_are o [] = refl
 aliases_are o (e ∷ es) = ap (λ (ns : List (List ℕ)). e.0 ∷ ns) (aliases_are o es)
 
-map_rises : (o : Bool) (pairs : List Pair) → AreRising (names pairs) → AreRising (aliases (map (wish o) pairs))
+pub map_rises : (o : Bool) (pairs : List Pair) → AreRising (names pairs) → AreRising (aliases (map (wish o) pairs))
 map_rises o pairs h = subst AreRising (sym (aliases_are o pairs)) h
 
-alias_is_in : (o : Bool) (pairs : List Pair) (n : List ℕ) → Contains (aliases (map (wish o) pairs)) n → IsIn pairs n
+pub alias_is_in : (o : Bool) (pairs : List Pair) (n : List ℕ) → Contains (aliases (map (wish o) pairs)) n → IsIn pairs n
 alias_is_in o pairs n h = in_names pairs n (subst (λ (ns : List (List ℕ)). Contains ns n) (aliases_are o pairs) h)
 
 rising : (m : Said) → IsRisingSaid m → IsOnce m → AreRising (aliases (wishes_of m))
@@ -210,6 +211,10 @@ one_map_rises owner m h = record {
   dev = left_rises (names m.optional ++ names m.dependencies) (dev_of owner m) (dev_rises owner m h.dev);
   optional = h.optional;
   peers = h.peers;
+  scripts = h.scripts;
+  bins = h.bins;
+  injected = h.injected;
+  overrides = h.overrides;
 }
 
 dropped_rises : (before : List (List ℕ)) (m : Said) → IsRisingSaid m → IsRisingSaid (dropped before m)
@@ -218,6 +223,10 @@ dropped_rises before m h = record {
   dev = left_rises (own_names m.name) m.dev h.dev;
   optional = left_rises (own_names m.name) m.optional h.optional;
   peers = peers_rise (own_names m.name ++ before) m.peers h.peers;
+  scripts = h.scripts;
+  bins = h.bins;
+  injected = h.injected;
+  overrides = h.overrides;
 }
 
 seen_rises : (owner : Owner) (m s : Said) → IsRisingSaid m → IsSeen no_hook no_rules owner m s → IsRisingSaid s

@@ -13,7 +13,7 @@ use Rattle.pn_walk.specs.declared.wish.Aim.TheVariants.{Project as to_project, P
 use Rattle.pn_walk.specs.Wants.{Id}
 use Rattle.pn_published.specs.Shelves.{Shelf}
 use Rattle.pn_plain.specs.Given.{Given, held_of, version_of}
-use Rattle.pn_plain.specs.Readings.{Reading, of_package, of_project, no_entry, reading, Bearer, one, nobody, two, bearer, bearing}
+use Rattle.pn_plain.specs.Readings.{Reading, of_package, of_project, no_entry, not_built, reading, built, Bearer, one, nobody, two, bearer, bearing}
 
 -- the package of a name and a version
 abbrev pub id_at : List ℕ → Parts → Id
@@ -43,12 +43,13 @@ abbrev pub ReadingLeads : (List ℕ → Shelf → Type 0) → Given → Bool →
 ReadingLeads published g optional (of_package n w) aim = (found : Option Parts) × Chooses published g n w found × Found n optional found aim
 ReadingLeads published g optional (of_project n w) aim = Borne optional (bearer_of g n w) aim
 ReadingLeads published g optional no_entry aim = ⊥
+ReadingLeads published g optional not_built aim = ⊥
 
 -- The specifier of a wish has this reading.
 pub record Reads (g : Given) (w : Wish) (r : Reading) : Type 0 where
   pub spec : Spec
   pub says : IsSpec w.specifier spec
-  pub is : r ≡ reading g.catalogs w.alias spec
+  pub is : r ≡ built g.spaces (reading g.catalogs w.alias spec)
 
 abbrev pub LeadsBy : (List ℕ → Shelf → Type 0) → Given → Wish → Option Id → Option Aim → Type 0
 LeadsBy published g w None aim = (r : Reading) × Reads g w r × ReadingLeads published g w.optional r aim

@@ -11,13 +11,14 @@ use Rattle.pn_walk.specs.Wants.{Id}
 use Rattle.pn_walk.specs.Walks.{Turn, place_of}
 use Rattle.pn_published.specs.Shelves.{Shelf}
 use Rattle.pn_plain.specs.Given.{Given}
-use Rattle.pn_plain.specs.Readings.{Reading, of_package, of_project, no_entry, Bearer, nobody, two}
+use Rattle.pn_plain.specs.Readings.{Reading, of_package, of_project, no_entry, not_built, Bearer, nobody, two}
 use Rattle.pn_plain.specs.Aims.{Chooses, Reads, Leads, bearer_of}
 
--- A specifier that has no form; an entry that its catalog lacks; no fitting project; two projects of the name, at these
+-- A specifier that has no form, or one that isn't built; an entry that its catalog lacks; no fitting project; two projects of the name, at these
 -- places; what the registry answers in place of versions or of a manifest, an F; no version; that many packages.
 pub data Cause (F : Type 0) : Type 0 where
   unsupported : Cause F
+  unbuilt : Cause F
   no_catalog : Cause F
   no_project : Cause F
   two_projects : ℕ → ℕ → Cause F
@@ -37,6 +38,7 @@ pub record Shown {F : Type 0} (published : List ℕ → Shelf → Type 0) (unpub
 -- The name has no version that is wanted, or its versions aren't shown.
 abbrev pub NoVersion : {F : Type 0} → (List ℕ → Shelf → Type 0) → (List ℕ → F → Type 0) → Given → Bool → List ℕ → Want → Cause F → Type 0
 NoVersion published unpublished g optional n w unsupported = ⊥
+NoVersion published unpublished g optional n w unbuilt = ⊥
 NoVersion published unpublished g optional n w no_catalog = ⊥
 NoVersion published unpublished g optional n w no_project = ⊥
 NoVersion published unpublished g optional n w (two_projects k j) = ⊥
@@ -47,6 +49,7 @@ NoVersion published unpublished g optional n w (packages c) = ⊥
 -- No project fits, or two bear the name.
 abbrev pub NoProject : {F : Type 0} → Bool → Bearer → Cause F → Type 0
 NoProject optional b unsupported = ⊥
+NoProject optional b unbuilt = ⊥
 NoProject optional b no_catalog = ⊥
 NoProject optional b no_project = (b ≡ nobody) × (optional ≡ false)
 NoProject optional b (two_projects k j) = b ≡ two k j
@@ -58,10 +61,12 @@ abbrev pub ReadingRefused : {F : Type 0} → (List ℕ → Shelf → Type 0) →
 ReadingRefused published unpublished g optional (of_package n w) f = NoVersion published unpublished g optional n w f
 ReadingRefused published unpublished g optional (of_project n w) f = NoProject optional (bearer_of g n w) f
 ReadingRefused published unpublished g optional no_entry f = f ≡ no_catalog
+ReadingRefused published unpublished g optional not_built f = f ≡ unbuilt
 
 -- A package that is met for the first time can't be read, or finds no room.
 abbrev pub NotMet : {F : Type 0} → (Node → Type 0) → (Id → F → Type 0) → List Node → Id → Cause F → Type 0
 NotMet node unread met id unsupported = ⊥
+NotMet node unread met id unbuilt = ⊥
 NotMet node unread met id no_catalog = ⊥
 NotMet node unread met id no_project = ⊥
 NotMet node unread met id (two_projects k j) = ⊥

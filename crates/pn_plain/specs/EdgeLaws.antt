@@ -12,7 +12,7 @@ use Rattle.pn_plain.specs.Aims.{Leads}
 use Rattle.pn_plain.specs.Causes.{Cause, Refused}
 use Rattle.pn_plain.specs.Given.{Given}
 use Rattle.pn_plain.specs.Plains.{Inputs}
-use Rattle.pn_plain.specs.Said.{Said}
+use Rattle.pn_manifest.specs.Said.{Said}
 use Rattle.pn_plain.specs.Told.{Told, IsToldShelf, IsGap, IsToldNode, IsUnread, IsOverridden, IsToldPlain, IsToldUnplain}
 
 -- A text is a specifier, or has no form of one.

@@ -1,5 +1,5 @@
 -- What a plain graph is made from, beside what the registry shows.
-use Rattle.std.specs.Prelude.{ℕ, List, [], ◌∷◌, Option, if◌then◌else◌, option_and_then, slice_get, codes}
+use Rattle.std.specs.Prelude.{ℕ, Bool, List, [], ◌∷◌, Option, if◌then◌else◌, option_and_then, slice_get, codes}
 use Rattle.std.specs.Str.{bytes_eq}
 use Rattle.semver.specs.Parse.{Parts}
 use Rattle.pn_spec.specs.declared.entry.CatalogEntry.{CatalogEntry}
@@ -18,11 +18,13 @@ pub record Named : Type 0 where
 abbrev pub Held : Type 0
 Held = List ℕ × Parts
 
--- what the old lockfile holds, the projects in byte order of folders, and the catalogs
+-- what the old lockfile holds, the projects in byte order of folders, the catalogs, and whether specifiers are built that
+-- ask for projects or entries
 pub record Given : Type 0 where
   pub held : List Held
   pub projects : List Named
   pub catalogs : List CatalogEntry
+  pub spaces : Bool
 
 -- the versions of a name that are held
 abbrev pub held_of : List ℕ → List Held → List Parts

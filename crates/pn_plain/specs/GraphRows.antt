@@ -11,7 +11,8 @@ use Rattle.pn_published.specs.Shelves.{Shelf, shelf_with}
 use Rattle.pn_plain.specs.Causes.{unsupported, no_version, no_catalog, no_project, two_projects, registry}
 use Rattle.pn_plain.specs.Plains.{Inputs}
 use Rattle.pn_plain.specs.Rows.{said_with, release}
-use Rattle.pn_plain.specs.Said.{Pair, Said}
+use Rattle.pn_manifest.specs.Pairs.{Pair}
+use Rattle.pn_manifest.specs.Said.{Said}
 use Rattle.pn_plain.specs.Seen.{no_hook, wish}
 use Rattle.pn_plain.specs.Told.{Told, IsToldPlain, IsToldUnplain}
 
@@ -47,6 +48,7 @@ asks dependencies optional = record {
   projects = record { folder = codes "."; said = said_with (Some (codes "w")) dependencies [] optional [] } ∷ [];
   held = [];
   catalogs = [];
+  spaces = true;
   auto_peers = false;
 }
 
@@ -75,6 +77,7 @@ twins = record {
       ∷ record { folder = codes "p"; said = said_of (codes "v") [] } ∷ record { folder = codes "q"; said = said_of (codes "v") [] } ∷ [];
   held = [];
   catalogs = [];
+  spaces = true;
   auto_peers = false;
 }
 

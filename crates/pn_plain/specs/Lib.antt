@@ -1,4 +1,3 @@
-pub mod Said
 pub mod Seen
 pub mod Given
 pub mod Readings

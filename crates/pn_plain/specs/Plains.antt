@@ -9,7 +9,7 @@ use Rattle.pn_published.specs.Shelves.{Shelf}
 use Rattle.pn_plain.specs.Given.{Held, Named, Given}
 use Rattle.pn_plain.specs.Aims.{Leads}
 use Rattle.pn_plain.specs.Causes.{Cause, Refused}
-use Rattle.pn_plain.specs.Said.{Said}
+use Rattle.pn_manifest.specs.Said.{Said}
 use Rattle.pn_plain.specs.Seen.{Hook, Rules, a_project, a_package, IsSeen, counted, wishes_of}
 
 -- a project by its folder and what its manifest says
@@ -18,18 +18,19 @@ pub record Project : Type 0 where
   pub said : Said
 
 -- The inputs beside the registry: the projects in byte order of folders, what the old lockfile holds of what counts, the
--- catalogs, and whether peers are installed by themselves.
+-- catalogs, whether specifiers are built that ask for projects or entries, and whether peers are installed by themselves.
 pub record Inputs : Type 0 where
   pub projects : List Project
   pub held : List Held
   pub catalogs : List CatalogEntry
+  pub spaces : Bool
   pub auto_peers : Bool
 
 abbrev pub named : Project → Named
 named p = record { name = p.said.name; version = p.said.version }
 
 abbrev pub given_by : Inputs → Given
-given_by i = record { held = i.held; projects = map named i.projects; catalogs = i.catalogs }
+given_by i = record { held = i.held; projects = map named i.projects; catalogs = i.catalogs; spaces = i.spaces }
 
 -- The package of an id, by what its manifest is seen as.
 pub record IsNode (manifest : Id → Said → Type 0) (hook : Hook) (rules : Rules) (n : Node) : Type 0 where

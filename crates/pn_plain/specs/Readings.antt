@@ -13,11 +13,12 @@ use Rattle.pn_spec.specs.declared.workspace.WsWant.TheVariants as ws
 use Rattle.pn_spec.specs.Entries.{spec_at}
 use Rattle.pn_plain.specs.Given.{Named}
 
--- a version of the package with a name, a project with a name, or an entry that a catalog lacks
+-- a version of the package with a name, a project with a name, an entry that a catalog lacks, or what isn't built
 pub data Reading : Type 0 where
   of_package : List ℕ → Want → Reading
   of_project : List ℕ → WsWant → Reading
   no_entry : Reading
+  not_built : Reading
 
 abbrev pub or_alias : Option (List ℕ) → List ℕ → List ℕ
 or_alias None alias = alias
@@ -39,6 +40,14 @@ reading catalogs alias (spec.Tag x) = of_package alias (want.Tag x)
 reading catalogs alias (spec.Alias n w) = of_package n w
 reading catalogs alias (spec.Workspace w) = of_project (or_alias w.name alias) w.want
 reading catalogs alias (spec.Catalog c) = entry_reading alias (spec_at c alias catalogs)
+
+-- the same where projects and catalogs aren't built
+abbrev pub built : Bool → Reading → Reading
+built true r = r
+built false (of_package n w) = of_package n w
+built false (of_project n w) = not_built
+built false no_entry = not_built
+built false not_built = not_built
 
 abbrev pub bears : List ℕ → Option (List ℕ) → Bool
 bears name None = false

@@ -11,11 +11,12 @@ use Rattle.pn_spec.specs.declared.want.Want.{Want}
 use Rattle.pn_spec.specs.declared.want.Want.TheVariants as want
 use Rattle.pn_spec.specs.declared.workspace.WsWant.TheVariants as ws
 use Rattle.pn_published.specs.Shelves.{Shelf, shelf_with}
-use Rattle.pn_walk.specs.declared.node.Peer.{Peer}
+use Rattle.pn_manifest.specs.declared.peers.Peer.{Peer}
 use Rattle.pn_plain.specs.Aims.{id_at}
 use Rattle.pn_plain.specs.Given.{Named, held_of, version_of}
-use Rattle.pn_plain.specs.Readings.{of_package, of_project, no_entry, reading, one, nobody, two, bearing, bearer}
-use Rattle.pn_plain.specs.Said.{Pair, Said}
+use Rattle.pn_plain.specs.Readings.{of_package, of_project, no_entry, not_built, reading, built, one, nobody, two, bearing, bearer}
+use Rattle.pn_manifest.specs.Pairs.{Pair}
+use Rattle.pn_manifest.specs.Said.{Said}
 use Rattle.pn_plain.specs.Seen.{a_project, a_package, no_hook, IsSeen, seen, counted, wish, wishes_of}
 
 -- a manifest with these dependencies and peers
@@ -160,6 +161,10 @@ catalog_row = refl
 
 pub default_catalog_row : reading catalogs (codes "c") (spec.Catalog (codes "default")) ≡ of_package (codes "c") (want.Tag (codes "next"))
 default_catalog_row = refl
+
+-- where projects and catalogs aren't built
+pub unbuilt_row : built false (reading catalogs (codes "b") (spec.Catalog (codes "default"))) ≡ not_built
+unbuilt_row = refl
 
 pub no_catalog_row : reading catalogs (codes "b") (spec.Catalog (codes "default")) ≡ no_entry
 no_catalog_row = refl

@@ -5,16 +5,14 @@ use Rattle.std.specs.Str.{bytes_eq}
 use Rattle.std.specs.Cmp.Lexicographic.{slice_cmp}
 use Rattle.std.specs.Ordering.{nat_cmp, is_lt}
 use Rattle.pn_walk.specs.declared.wish.Wish.{Wish}
-use Rattle.pn_walk.specs.declared.node.Peer.{Peer}
-use Rattle.pn_plain.specs.Said.{Pair, Said}
+use Rattle.pn_manifest.specs.declared.peers.Peer.{Peer}
+use Rattle.pn_manifest.specs.Pairs.{Pair, names}
+use Rattle.pn_manifest.specs.Said.{Said}
 
 -- whose manifest it is
 pub data Owner : Type 0 where
   a_project : Owner
   a_package : Owner
-
-abbrev pub names : List Pair → List (List ℕ)
-names pairs = map (λ (e : Pair). e.0) pairs
 
 abbrev pub is_among : List (List ℕ) → List ℕ → Bool
 is_among all name = list_any (bytes_eq name) all

@@ -1,8 +1,9 @@
 -- What a manifest is seen as, in the manifest's own words.
 use Rattle.std.specs.Prelude.{◌≡◌, ◌⊎◌, ◌↔◌, ℕ, List, Some}
 use Rattle.std.specs.List.{Contains}
-use Rattle.pn_walk.specs.declared.node.Peer.{Peer}
-use Rattle.pn_plain.specs.Said.{Pair, Said}
+use Rattle.pn_manifest.specs.declared.peers.Peer.{Peer}
+use Rattle.pn_manifest.specs.Pairs.{Pair}
+use Rattle.pn_manifest.specs.Said.{Said}
 use Rattle.pn_plain.specs.Seen.{Owner, dev_of, no_hook, no_rules, IsSeen}
 use Rattle.pn_plain.specs.Told.{Told, IsOverridden, IsToldSeen}
 

@@ -6,7 +6,7 @@ use Rattle.pn_walk.specs.Walks.{State}
 use Rattle.pn_published.specs.Shelves.{Shelf}
 use Rattle.pn_plain.specs.Causes.{Cause}
 use Rattle.pn_plain.specs.Plains.{Inputs, IsNode, IsPlain, IsUnplain}
-use Rattle.pn_plain.specs.Said.{Said}
+use Rattle.pn_manifest.specs.Said.{Said}
 use Rattle.pn_plain.specs.Seen.{Hook, Owner, IsSeen}
 
 -- What is told, for each name its versions, and for each id its manifest, or by a number why not; and what a hook and

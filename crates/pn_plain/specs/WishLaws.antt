@@ -1,31 +1,14 @@
 -- What a seen manifest asks for, in the manifest's own words.
 use Rattle.std.specs.Prelude.{◌≡◌, ℕ, true, false, List, map}
-use Rattle.std.specs.Cmp.Lexicographic.{slice_cmp}
 use Rattle.std.specs.List.{Contains}
-use Rattle.std.specs.List.Sorted.{IsStrictlySortedBy}
-use Rattle.std.specs.Ordering.{nat_cmp}
-use Rattle.pn_walk.specs.declared.node.Peer.{Peer}
 use Rattle.pn_walk.specs.declared.wish.Wish.{Wish}
-use Rattle.pn_plain.specs.Said.{Pair, Said}
-use Rattle.pn_plain.specs.Seen.{Owner, names, no_hook, no_rules, IsSeen, wish, wishes_of}
+use Rattle.pn_manifest.specs.Pairs.{Pair}
+use Rattle.pn_manifest.specs.Said.{Said, AreRising, IsRisingSaid}
+use Rattle.pn_plain.specs.Seen.{Owner, no_hook, no_rules, IsSeen, wish, wishes_of}
 use Rattle.pn_plain.specs.SeenLaws.{IsOnce}
-
--- byte order, each once
-abbrev pub AreRising : List (List ℕ) → Type 0
-AreRising texts = IsStrictlySortedBy (slice_cmp nat_cmp) texts
 
 abbrev pub aliases : List Wish → List (List ℕ)
 aliases wishes = map (λ (w : Wish). w.alias) wishes
-
-abbrev pub peer_names : List Peer → List (List ℕ)
-peer_names peers = map (λ (p : Peer). p.name) peers
-
--- The maps rise in byte order of names.
-pub record IsRisingSaid (m : Said) : Type 0 where
-  pub dependencies : AreRising (names m.dependencies)
-  pub dev : AreRising (names m.dev)
-  pub optional : AreRising (names m.optional)
-  pub peers : AreRising (peer_names m.peers)
 
 -- The wish is a dependency's. It may come to nothing where that is optional.
 pub data IsWishOf (m : Said) (w : Wish) : Type 0 where

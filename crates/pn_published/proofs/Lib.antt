@@ -5,4 +5,4 @@ mod ChoiceLemmas
 mod Gathered
 mod SaidLemmas
 mod NameFolders
-mod OneShelf
+pub mod OneShelf

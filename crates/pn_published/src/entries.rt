@@ -7,6 +7,7 @@ ghost use Rattle.pn_text.specs.Ids.{parts_text};
 ghost use Rattle.pn_fs.specs.Seen.{Keeps, GaveNothing, GaveAtMost};
 ghost use Rattle.pn_fs.specs.Calls.{IsListing, IsEntryName};
 ghost use Rattle.pn_published.specs.Shelves.{AreVersions, HasFew};
+ghost use Rattle.pn_published.specs.Versions.{AreParsed};
 ghost use Rattle.pn_published.specs.Folders.{is_folder, version_at, versions_at};
 ghost use Rattle.pn_published.specs.Refusals.{ListRefused, CallRefused};
 
@@ -69,6 +70,7 @@ fn versions_at<R: ReadFs>(
     requires good { All (IsEntryName folder.now) names.now }
     ensures versions { IfSome (R.seen registry.old).tree (λ t. IfOk result (λ v. map parts_of v.items ≡ versions_at t folder.now names.now)) }
     ensures few { IfOk result (λ v. vec_len v ≤ length names.now) }
+    ensures parsed { IfOk result (λ v. AreParsed (map parts_of v.items)) }
     ensures gave { IfSome (R.seen registry.old).tree (λ t. GaveAtMost (R.seen registry.old) 0 0 (R.seen registry.new)) }
     ensures kept { Keeps (R.seen registry.old) (R.seen registry.new) }
     ensures fault { IfErr result (CallRefused (R.seen registry.old) (R.seen registry.new)) }
@@ -99,6 +101,7 @@ fn version_at<R: ReadFs>(
 ) -> Result<Option<Version>, PublishedFault>
     requires { IsEntryName folder.now name.now }
     ensures version { IfSome (R.seen registry.old).tree (λ t. IfOk result (λ v. option_map parts_of v ≡ version_at t folder.now name.now)) }
+    ensures parsed { IfOk result (λ v. AreParsed (map parts_of (option_to_list v))) }
     ensures gave { IfSome (R.seen registry.old).tree (λ t. GaveNothing (R.seen registry.old) (R.seen registry.new)) }
     ensures kept { Keeps (R.seen registry.old) (R.seen registry.new) }
     ensures fault { IfErr result (CallRefused (R.seen registry.old) (R.seen registry.new)) }

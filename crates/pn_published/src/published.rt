@@ -2,7 +2,7 @@
 ghost use Rattle.std.specs.Prelude.{◌≡◌, ◌≤◌, length, map};
 ghost use Rattle.semver.specs.Identifiers.{parts_of};
 ghost use Rattle.pn_text.specs.declared.limits.TheConstants.{ENTRY_LIMIT};
-ghost use Rattle.pn_published.specs.Versions.{IsRising};
+ghost use Rattle.pn_published.specs.Versions.{IsRising, AreParsed};
 ghost use Rattle.pn_published.specs.Tags.{AreRisingTags};
 ghost use Rattle.pn_published.specs.Listed.{tagged};
 
@@ -22,19 +22,20 @@ impl Model for Versions {
     ghost use Rattle.semver.specs.Parse.{Parts};
     ghost use Rattle.semver.specs.Identifiers.{parts_of};
     ghost use Rattle.pn_text.specs.declared.limits.TheConstants.{ENTRY_LIMIT};
-    ghost use Rattle.pn_published.specs.Versions.{IsRising};
+    ghost use Rattle.pn_published.specs.Versions.{IsRising, AreParsed};
 
     ghost Value = { List Parts };
 
     ghost view = { λ a. map parts_of a.items.items };
 
-    ghost invariant = { λ a. IsRising (map parts_of a.items.items) × (length a.items.items ≤ ENTRY_LIMIT) };
+    ghost invariant = { λ a. IsRising (map parts_of a.items.items) × (length a.items.items ≤ ENTRY_LIMIT) × AreParsed (map parts_of a.items.items) };
 }
 
 impl Versions {
     pub(crate) fn of(items: Vec<Version>) -> Versions
         requires rising { IsRising (map parts_of items.items) }
         requires few { length items.items ≤ ENTRY_LIMIT }
+        requires parsed { AreParsed (map parts_of items.items) }
         ensures { result ≡ map parts_of items.items }
     {
         Versions { items }
@@ -44,6 +45,7 @@ impl Versions {
         ensures versions { map parts_of result.now ≡ self.now }
         ensures rising { IsRising self.now }
         ensures few { length result.now ≤ ENTRY_LIMIT }
+        ensures parsed { AreParsed self.now }
     {
         self.items.as_slice()
     }

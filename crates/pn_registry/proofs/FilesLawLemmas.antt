@@ -12,7 +12,7 @@ use Rattle.pn_text.specs.Path.{Path, text_below}
 use Rattle.pn_fs.specs.Tree.{Tree, IsTree}
 use Rattle.pn_read.specs.Small.{IsFileOf}
 use Rattle.pn_registry.specs.Below.{HasFew, HasMany}
-use Rattle.pn_registry.specs.Files.{File, IsRising, IsFilesOf, IsClean}
+use Rattle.pn_registry.specs.Files.{File, IsRising, IsFilesOf, IsClean, entry_below}
 use Rattle.pn_registry.specs.FilesFaults.{IsFirstFile, is_modular, is_large, entry_limit}
 use Rattle.pn_registry.specs.FilesLaws.{FilesCauseLaw, FilesPassedLaw, FilesSameLaw}
 use Rattle.pn_registry.specs.declared.contents.FilesFault.TheVariants.{Modules, TooLarge, Entries, Fault, Memory}
@@ -48,7 +48,7 @@ one_first : (so : File → Bool) (t : Tree) → IsTree t → (at : Path) (f g : 
 one_first so t tree at f g a b =
     let text = one_text (text_below f.0) (text_below g.0) (b.first f.0 f.1 a.stands a.is) (a.first g.0 g.1 b.stands b.is) in
     let path : f.0 ≡ g.0 = below_one f.0 g.0 (good_below t tree at f.0 f.1 a.stands) (good_below t tree at g.0 g.1 b.stands) text in
-    let size : f.1 ≡ g.1 = same_length t (g.0 ++ at) f.1 g.1 (subst (λ (q : Path). IsFileOf f.1 (t (q ++ at))) path a.stands) b.stands in
+    let size : f.1 ≡ g.1 = same_length (entry_below t at g.0) f.1 g.1 (subst (λ (q : Path). IsFileOf f.1 (entry_below t at q)) path a.stands) b.stands in
     λ i. (path i, size i)
 
 pub cause : FilesCauseLaw

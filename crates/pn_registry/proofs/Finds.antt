@@ -8,7 +8,7 @@ use Rattle.pn_text.specs.Path.{Path, text_below}
 use Rattle.pn_text.proofs.Orders.{not_before_self, not_both_before}
 use Rattle.pn_fs.specs.Tree.{Tree}
 use Rattle.pn_read.specs.Small.{IsFileOf}
-use Rattle.pn_registry.specs.Files.{File, IsRising, IsFilesOf}
+use Rattle.pn_registry.specs.Files.{File, IsRising, IsFilesOf, entry_below}
 use Rattle.pn_registry.specs.FilesFaults.{IsFirstFile, HasNone}
 use Rattle.pn_text.proofs.Members.{none_in, in_cons, here, there}
 
@@ -66,7 +66,7 @@ find_first so (x ∷ fs) f rising h = elim (either (so x) x f (find so fs) h) [
 ]
 
 -- a file of the tree is in the list
-pub listed_file : (t : Tree) (at : Path) (fs : List File) → IsFilesOf t at fs → (q : Path) (n : ℕ) → IsFileOf n (t (q ++ at)) → Contains fs (q, n)
+pub listed_file : (t : Tree) (at : Path) (fs : List File) → IsFilesOf t at fs → (q : Path) (n : ℕ) → IsFileOf n (entry_below t at q) → Contains fs (q, n)
 listed_file t at fs of q n h = subst (λ k. Contains fs (q, k)) (sym h.2) (of.all q h.0 h.1)
 
 pub first_in_tree : (so : File → Bool) (t : Tree) (at : Path) (fs : List File) (f : File) → IsFilesOf t at fs → IsFirst so fs f → IsFirstFile so t at f

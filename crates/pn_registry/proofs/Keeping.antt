@@ -19,6 +19,7 @@ use Rattle.pn_registry.specs.Apart.{AreApart, KeepsApart, HasAbove, TakesApart}
 use Rattle.pn_text.proofs.Members.{none_in, in_cons, here, there}
 use Rattle.pn_registry.proofs.Orders.{rising_nil}
 use Rattle.pn_registry.proofs.Finds.{all_in}
+use Rattle.pn_registry.proofs.LineFeeds.{file_there}
 use Rattle.pn_text.proofs.Joins.{text_below-append, below_begins}
 
 -- what is read on stands below a path
@@ -217,8 +218,8 @@ no_folder t p m f h = let same : Some (file f.0) ≡ Some folder = sym f.1 ∙ h
 pub apart_in_tree : (t : Tree) → IsTree t → (at : Path) (files : List File) → IsFilesOf t at files → AreApart files
 apart_in_tree t tree at files of [] q m n i j = refl
 apart_in_tree t tree at files of (x ∷ s) q m n i j =
-    let below = of.stands (x ∷ s ++ q) n j in
-    absurd (no_folder t (q ++ at) m (of.stands q m i) (climb t tree s x (q ++ at) (file below.0) (ap t (sym (append_assoc (x ∷ s) q at)) ∙ below.1)))
+    let below = file_there t at (x ∷ s ++ q) n (of.stands (x ∷ s ++ q) n j) in
+    absurd (no_folder t (q ++ at) m (file_there t at q m (of.stands q m i)) (climb t tree s x (q ++ at) (file below.0) (ap t (sym (append_assoc (x ∷ s) q at)) ∙ below.1)))
 
 -- and of the files of a tree none is left out
 pub kept_apart : (t : Tree) → IsTree t → (at : Path) (files kept : List File) → IsFilesOf t at files → KeepsApart files kept → IsFilesOf t at kept

@@ -1,3 +1,4 @@
+pub mod LineFeeds
 pub mod Children
 pub mod Walks
 pub mod Packages

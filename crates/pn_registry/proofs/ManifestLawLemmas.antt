@@ -5,9 +5,9 @@ use Rattle.serde_json.specs.Data.{Data}
 use Rattle.pn_fs.specs.Tree.{Entry}
 use Rattle.pn_fs.proofs.SeenLemmas.{file_once}
 use Rattle.pn_read.specs.Small.{IsFileOf}
-use Rattle.pn_manifest.specs.Exact.{Id}
 use Rattle.pn_manifest.specs.Fields.{Spot}
-use Rattle.pn_manifest.specs.Says.{Says, IsSame}
+use Rattle.pn_manifest.specs.Says.{said_of}
+use Rattle.pn_manifest.specs.Fields.{said}
 use Rattle.pn_manifest.specs.Text.{IsObjectText}
 use Rattle.pn_manifest.specs.declared.fault.ManifestWhy.{ManifestWhy}
 use Rattle.pn_manifest.specs.declared.fault.ManifestWhy.TheVariants.{Missing, NotJson, BadField}
@@ -15,7 +15,7 @@ use Rattle.pn_manifest.specs.declared.manifest.Manifest.{Manifest}
 use Rattle.pn_registry.specs.ManifestLaws.{ManifestCauseLaw, ManifestPassedLaw, ManifestSameLaw}
 use Rattle.pn_registry.specs.Package.{text_limit, first_wrong_of, IsText}
 use Rattle.pn_registry.specs.PackageFaults.{IsNoText, WrongFile}
-use Rattle.pn_registry.specs.Places.{manifest_path}
+use Rattle.pn_registry.specs.Places.{Id, manifest_path}
 use Rattle.pn_registry.specs.declared.package.PackageFault.TheVariants.{Wrong, TooLarge, Fault, Memory}
 
 value_once : (x y : Data) (o : Option Data) → o ≡ Some x → o ≡ Some y → x ≡ y
@@ -93,16 +93,7 @@ passed t id m (TooLarge n) found h = not_long (t (manifest_path id)) found.value
 passed t id m Fault found h = h
 passed t id m Memory found h = h
 
-says_same : (d : Data) (a b : Manifest) → Says d a → Says d b → IsSame a b
-says_same d a b x y = record {
-  name = y.name ∙ sym x.name;
-  version = y.version ∙ sym x.version;
-  dependencies = y.dependencies ∙ sym x.dependencies;
-  later = y.later ∙ sym x.later;
-  dev = y.dev ∙ sym x.dev;
-}
-
 pub same : ManifestSameLaw
 same t id m other a b =
     let value = text_once (t (manifest_path id)) a.value b.value a.text b.text in
-    says_same b.value m other (subst (λ (d : Data). Says d m) value a.read.says) b.read.says
+    a.read.says ∙ ap said value ∙ sym b.read.says

@@ -1,6 +1,6 @@
 -- Files in byte order.
 use Rattle.std.proofs.Common.{◌≡◌, ℕ, List, [], ◌∷◌, ◌++◌, length, map, refl, sym, ap, ◌∙◌, subst, true, Less, nat_cmp, Some}
-use Rattle.std.specs.Prelude.{nat_eq, IsTrue}
+use Rattle.std.specs.Prelude.{nat_eq, IsTrue, Option}
 use Rattle.std.specs.Cmp.{on_total}
 use Rattle.std.specs.Cmp.Lexicographic.{slice_cmp, pointwise, nat_list_cmp_total, texts_ties}
 use Rattle.std.specs.List.{Contains, AllByRecursion, dedup}
@@ -13,12 +13,13 @@ use Rattle.std.specs.Cmp.Lexicographic.{nat_list_eq_equiv}
 use Rattle.pn_text.specs.Path.{Path, is_path, is_part, text_below}
 use Rattle.pn_text.proofs.Bools.{and_left, and_right}
 use Rattle.pn_text.proofs.Paths.{below_one}
-use Rattle.pn_fs.specs.Tree.{Tree, IsTree, file}
+use Rattle.pn_fs.specs.Tree.{Entry, Tree, IsTree, file}
 use Rattle.pn_read.specs.Small.{IsFileOf}
-use Rattle.pn_registry.specs.Files.{File, IsRising, IsFilesOf, KeepsPaths}
+use Rattle.pn_registry.specs.Files.{File, IsRising, IsFilesOf, KeepsPaths, entry_below}
 use Rattle.pn_registry.specs.Listed.{file_of, text_of}
 use Rattle.pn_registry.specs.declared.list.PackageFile.{PackageFile}
 use Rattle.pn_text.proofs.Members.{from_map, to_map}
+use Rattle.pn_registry.proofs.LineFeeds.{below_there}
 
 pub rising_nil : IsRising []
 unfolding IsStrictlySortedBy
@@ -60,14 +61,14 @@ path_front [] p h = refl
 path_front (x ∷ q) p h = let a = and_left (is_part x) (is_path (q ++ p)) h in let b = path_front q p (and_right (is_part x) (is_path (q ++ p)) h) in rw (a, b) refl
 
 -- the path of a file below a folder is good
-pub good_below : (t : Tree) → IsTree t → (at q : Path) (n : ℕ) → IsFileOf n (t (q ++ at)) → IsTrue (is_path q)
-good_below t tree at q n f = path_front q at (tree.paths (q ++ at) (file f.0) f.1).0
+pub good_below : (t : Tree) → IsTree t → (at q : Path) (n : ℕ) → IsFileOf n (entry_below t at q) → IsTrue (is_path q)
+good_below t tree at q n f = path_front q at (tree.paths (q ++ at) (file f.0) (below_there t at q (file f.0) f.1)).0
 
 same_bytes : (x y : List ℕ) → Some (file x) ≡ Some (file y) → x ≡ y
 same_bytes x y e = cc
 
-pub same_length : (t : Tree) (p : Path) (m n : ℕ) → IsFileOf m (t p) → IsFileOf n (t p) → m ≡ n
-same_length t p m n a b = let same : a.0 ≡ b.0 = same_bytes a.0 b.0 (sym a.1 ∙ b.1) in a.2 ∙ ap length same ∙ sym b.2
+pub same_length : (e : Option Entry) (m n : ℕ) → IsFileOf m e → IsFileOf n e → m ≡ n
+same_length e m n a b = let same : a.0 ≡ b.0 = same_bytes a.0 b.0 (sym a.1 ∙ b.1) in a.2 ∙ ap length same ∙ sym b.2
 
 -- in a tree nothing is left out
 pub kept_files : (t : Tree) → IsTree t → (at : Path) (files list : List File) → IsFilesOf t at files → KeepsPaths files list → IsFilesOf t at list
@@ -77,9 +78,9 @@ kept_files t tree at files list of keeps = record {
       let r = keeps.paths (q, length bytes) (of.all q bytes is) in
       let g = r.0 in
       let stands = of.stands g.0 g.1 (keeps.from g r.1) in
-      let mine : IsFileOf (length bytes) (t (q ++ at)) = (bytes, is, refl) in
+      let mine : IsFileOf (length bytes) (entry_below t at q) = (bytes, is, refl) in
       let path : g.0 ≡ q = below_one g.0 q (good_below t tree at g.0 g.1 stands) (good_below t tree at q (length bytes) mine) r.2 in
-      let size : g.1 ≡ length bytes = same_length t (q ++ at) g.1 (length bytes) (subst (λ z. IsFileOf g.1 (t (z ++ at))) path stands) mine in
+      let size : g.1 ≡ length bytes = same_length (entry_below t at q) g.1 (length bytes) (subst (λ z. IsFileOf g.1 (entry_below t at z)) path stands) mine in
       let both : g ≡ (q, length bytes) = λ i. (path i, size i) in
       subst (λ z. Contains list z) both r.1;
 }

@@ -12,17 +12,16 @@ use Rattle.pn_text.specs.Path.{Path}
 use Rattle.pn_text.specs.Name.{is_name}
 use Rattle.pn_fs.specs.Tree.{Entry, Tree, file}
 use Rattle.pn_fs.specs.Seen.{Seen}
-use Rattle.pn_manifest.specs.Exact.{Id}
-use Rattle.pn_manifest.specs.Fields.{Spot, or_else, field, wrong_text, wrong_map, text_field, first_wrong, name_of}
-use Rattle.pn_manifest.specs.Pairs.{is_own}
+use Rattle.pn_manifest.specs.Fields.{Spot, or_else, field, wrong_text, wrong_map, text_field, first_wrong, name_of, said}
 use Rattle.pn_manifest.specs.Text.{IsObjectText}
 use Rattle.pn_manifest.specs.Refusals.{WrongBytes}
-use Rattle.pn_manifest.specs.Says.{Reads, Says}
+use Rattle.pn_manifest.specs.Said.{Said}
+use Rattle.pn_manifest.specs.Says.{Reads, said_of}
 use Rattle.pn_manifest.specs.declared.manifest.Manifest.{Manifest}
 use Rattle.pn_manifest.specs.declared.fault.ManifestWhy.{ManifestWhy}
 use Rattle.pn_manifest.specs.declared.fault.ManifestWhy.TheVariants.{Missing, NotJson, BadField}
-use Rattle.pn_registry.specs.Places.{manifest_path}
-use Rattle.pn_registry.specs.Package.{text_limit, unless, other_of, first_wrong_of, has_text, stated_other, IsRead, IsFound}
+use Rattle.pn_registry.specs.Places.{Id, manifest_path}
+use Rattle.pn_registry.specs.Package.{text_limit, unless, states, other_of, first_wrong_of, has_text, stated_other, IsRead, IsFound}
 use Rattle.pn_registry.specs.PackageFaults.{PackageRefused, TextRefused, IsOther, WrongFile, WrongText}
 use Rattle.pn_registry.specs.declared.package.PackageFault.{PackageFault}
 use Rattle.pn_registry.specs.declared.package.PackageFault.TheVariants.{Wrong, TooLarge, Fault, Memory}
@@ -36,7 +35,7 @@ passed : (b : Bool) (key : List ℕ) → unless b key ≡ None → b ≡ true
 passed true key h = refl
 passed false key h = cc h
 
-field_same : (f : Option Data) (v : Option Parts) (text : List ℕ) → wrong_text (codes "version") is_version f ≡ None → v ≡ option_and_then parts_text (text_field f) → has_text v text ≡ is_own (text_field f) text
+field_same : (f : Option Data) (v : Option Parts) (text : List ℕ) → wrong_text (codes "version") is_version f ≡ None → v ≡ option_and_then parts_text (text_field f) → has_text v text ≡ states (text_field f) text
 field_same None v text right e = ap (λ o. has_text o text) e
 field_same (Some null) v text right e = cc right
 field_same (Some (boolean b)) v text right e = cc right
@@ -52,16 +51,16 @@ none_then (Some x) b h = cc h
 
 version_right : (d : Data) → first_wrong d ≡ None → wrong_text (codes "version") is_version (field (codes "version") d) ≡ None
 version_right d h =
-    (none_then (wrong_text (codes "version") is_version (field (codes "version") d)) (wrong_map (codes "dependencies") (field (codes "dependencies") d))
+    (none_then (wrong_text (codes "version") is_version (field (codes "version") d)) _
     (none_then (wrong_text (codes "name") is_name (field (codes "name") d)) _ h).1).0
 
 -- what the manifest states is what its text states
-other_is : (id : Id) (d : Data) (m : Manifest) → first_wrong d ≡ None → Says d m → stated_other id m.name (option_map parts_of m.version) ≡ other_of id d
+other_is : (id : Id) (d : Data) (m : Manifest) → first_wrong d ≡ None → said_of m ≡ said d → stated_other id m.name (option_map parts_of m.version) ≡ other_of id d
 other_is id d m right says =
-    ap (λ n. or_else (unless (is_own n (id_name id)) (codes "name")) (unless (has_text (option_map parts_of m.version) (id_version id)) (codes "version"))) says.name
-    ∙ ap (λ b. or_else (unless (is_own (name_of d) (id_name id)) (codes "name")) (unless b (codes "version"))) (field_same (field (codes "version") d) (option_map parts_of m.version) (id_version id) (version_right d right) says.version)
+    ap (λ n. or_else (unless (states n (id_name id)) (codes "name")) (unless (has_text (option_map parts_of m.version) (id_version id)) (codes "version"))) (ap (λ (s : Said). s.name) says)
+    ∙ ap (λ b. or_else (unless (states (name_of d) (id_name id)) (codes "name")) (unless b (codes "version"))) (field_same (field (codes "version") d) (option_map parts_of m.version) (id_version id) (version_right d right) (ap (λ (s : Said). s.version) says))
 
-wrong_is : (id : Id) (d : Data) (m : Manifest) → first_wrong d ≡ None → Says d m → first_wrong_of id d ≡ stated_other id m.name (option_map parts_of m.version)
+wrong_is : (id : Id) (d : Data) (m : Manifest) → first_wrong d ≡ None → said_of m ≡ said d → first_wrong_of id d ≡ stated_other id m.name (option_map parts_of m.version)
 wrong_is id d m right says = ap (λ w. or_else w (other_of id d)) right ∙ sym (other_is id d m right says)
 
 -- where it states another name or version

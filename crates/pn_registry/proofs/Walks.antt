@@ -10,11 +10,12 @@ use Rattle.pn_fs.specs.Calls.{IsListing}
 use Rattle.pn_read.specs.Small.{IsFileOf}
 use Rattle.pn_text.proofs.Paths.{deeper}
 use Rattle.pn_registry.specs.Below.{StandsBelow, IsDistinct, HasMany, HasFew}
-use Rattle.pn_registry.specs.Files.{File, IsFilesOf}
+use Rattle.pn_registry.specs.Files.{File, IsFilesOf, entry_below}
 use Rattle.pn_registry.specs.Listed.{file_of, placed}
-use Rattle.pn_registry.specs.Turns.{folders_in, files_in, Lists, IsFull}
+use Rattle.pn_registry.specs.Turns.{without_line_feeds, folders_in, files_in, Lists, IsFull}
 use Rattle.pn_registry.specs.declared.list.PackageFile.{PackageFile}
 use Rattle.pn_text.proofs.Members.{none_in, in_cons, here, there}
+use Rattle.pn_registry.proofs.LineFeeds.{told_below, below_there}
 use Rattle.pn_registry.proofs.Distinct.{distinct_append, distinct_front, distinct_last}
 use Rattle.pn_registry.proofs.Children.{children, length-children, tail_same, not_below, in_children, to_children, distinct_children, in_folders, to_folders, distinct_folders, in_files, to_files}
 
@@ -29,8 +30,8 @@ pub record Walks (t : Tree) (at : Path) (todo : List Path) (found : List File) (
   pub reached : (p : Path) → Contains todo p → (p ≡ at) ⊎ Contains seen p
   pub folders : (p : Path) → Contains todo p → t p ≡ Some folder
   pub once : IsDistinct todo
-  pub sound : (p : Path) (k : ℕ) → Contains found (p, k) → IsFileOf k (t p)
-  pub complete : (p : Path) (bytes : List ℕ) → Contains seen p → t p ≡ Some (file bytes) → Contains found (p, length bytes)
+  pub sound : (p : Path) (k : ℕ) → Contains found (p, k) → IsFileOf k (without_line_feeds at t p)
+  pub complete : (p : Path) (bytes : List ℕ) → Contains seen p → without_line_feeds at t p ≡ Some (file bytes) → Contains found (p, length bytes)
 
 pub at_first : (t : Tree) (at : Path) → t at ≡ Some folder → Walks t at (at ∷ []) [] 0
 at_first t at is = record {
@@ -136,19 +137,19 @@ module _ (t : Tree) (tree : IsTree t) (at q : Path) (left : List Path) (found : 
     | inr j ↦ fresh p j (new_child p f)
   ])
 
-  complete_now : (p : Path) (bytes : List ℕ) → Contains seen_now p → t p ≡ Some (file bytes) → Contains (found ++ files_in t q names) (p, length bytes)
+  complete_now : (p : Path) (bytes : List ℕ) → Contains seen_now p → without_line_feeds at t p ≡ Some (file bytes) → Contains (found ++ files_in (without_line_feeds at t) q names) (p, length bytes)
   complete_now p bytes h is = elim (Contains-append_cases w.seen (children q names) p h) [
-    | inl i ↦ Contains-append_left found (files_in t q names) (p, length bytes) (w.complete p bytes i is)
+    | inl i ↦ Contains-append_left found (files_in (without_line_feeds at t) q names) (p, length bytes) (w.complete p bytes i is)
     | inr c ↦
         let d = in_children q names p c in
-        Contains-append_right found (files_in t q names) (p, length bytes) (subst (λ z. Contains (files_in t q names) (z, length bytes)) (sym d.1) (to_files t q names d.0 bytes d.2 (ap t (sym d.1) ∙ is)))
+        Contains-append_right found (files_in (without_line_feeds at t) q names) (p, length bytes) (subst (λ z. Contains (files_in (without_line_feeds at t) q names) (z, length bytes)) (sym d.1) (to_files (without_line_feeds at t) q names d.0 bytes d.2 (ap (without_line_feeds at t) (sym d.1) ∙ is)))
   ]
 
   count_now : length seen_now ≡ n + length names
   count_now = length-append w.seen (children q names) ∙ ap (λ k. k + length (children q names)) w.count ∙ ap (λ k. n + k) (length-children q names)
 
   -- the folder was listed
-  pub after : Walks t at todo_now (found ++ files_in t q names) (n + length names)
+  pub after : Walks t at todo_now (found ++ files_in (without_line_feeds at t) q names) (n + length names)
   after = record {
     seen = seen_now;
     count = count_now;
@@ -160,7 +161,7 @@ module _ (t : Tree) (tree : IsTree t) (at q : Path) (left : List Path) (found : 
     reached = reached_now;
     folders = λ p i. elim (Contains-append_cases left (folders_in t q names) p i) [ inl j ↦ w.folders p (Contains-append_left left (q ∷ []) p j) | inr f ↦ (in_folders t q names p f).3 ];
     once = once_now;
-    sound = λ p k i. elim (Contains-append_cases found (files_in t q names) (p, k) i) [ inl j ↦ w.sound p k j | inr f ↦ in_files t q names p k f ];
+    sound = λ p k i. elim (Contains-append_cases found (files_in (without_line_feeds at t) q names) (p, k) i) [ inl j ↦ w.sound p k j | inr f ↦ in_files (without_line_feeds at t) q names p k f ];
     complete = complete_now;
   }
 
@@ -169,11 +170,11 @@ module _ (t : Tree) (tree : IsTree t) (at q : Path) (left : List Path) (found : 
   many_now limit within many = record { paths = seen_now; many = omega (arith, count_now); distinct = distinct_now; stand = stands_now }
 
 pub turned : (t : Tree) → IsTree t → (at q : Path) (todo left todo' : List Path) (found found' : List File) (n k n' : ℕ) → Walks t at todo found n → todo ≡ left ++ q ∷ []
-    → Lists t q k left todo' found found' → n' ≡ n + k → Walks t at todo' found' n'
+    → Lists t at q k left todo' found found' → n' ≡ n + k → Walks t at todo' found' n'
 turned t tree at q todo left todo' found found' n k n' w is l sum =
     let popped = subst (λ d. Walks t at d found n) is w in
     let done = after t tree at q left found n popped l.names l.listing in
-    let counted = subst (λ m. Walks t at (left ++ folders_in t q l.names) (found ++ files_in t q l.names) m) (ap (λ m. n + m) (sym l.count) ∙ sym sum) done in
+    let counted = subst (λ m. Walks t at (left ++ folders_in t q l.names) (found ++ files_in (without_line_feeds at t) q l.names) m) (ap (λ m. n + m) (sym l.count) ∙ sym sum) done in
     subst (λ d. Walks t at d found' n') (sym l.takes.folders) (subst (λ f. Walks t at (left ++ folders_in t q l.names) f n') (sym l.takes.files) counted)
 
 pub too_many : (t : Tree) → IsTree t → (at q : Path) (todo left : List Path) (found : List File) (n limit room : ℕ) → Walks t at todo found n → todo ≡ left ++ q ∷ []
@@ -196,10 +197,10 @@ module _ (t : Tree) (tree : IsTree t) (at : Path) (is : t at ≡ Some folder) (f
   pub few_seen : (limit : ℕ) → n ≤ limit → HasFew t at limit
   few_seen limit within = record { paths = w.seen; few = omega (arith, w.count); all = all_seen }
 
-  file_seen : (q : Path) (bytes : List ℕ) → t (q ++ at) ≡ Some (file bytes) → Contains found (q ++ at, length bytes)
-  file_seen q bytes h = elim (all_seen q (file bytes) h) [
-    | inl none ↦ let same : t (q ++ at) ≡ Some folder = ap (λ z. t (z ++ at)) none ∙ is in cc (same, h)
-    | inr i ↦ w.complete (q ++ at) bytes i h
+  file_seen : (q : Path) (bytes : List ℕ) → entry_below t at q ≡ Some (file bytes) → Contains found (q ++ at, length bytes)
+  file_seen q bytes h = let there_ = below_there t at q (file bytes) h in elim (all_seen q (file bytes) there_) [
+    | inl none ↦ let same : t (q ++ at) ≡ Some folder = ap (λ z. t (z ++ at)) none ∙ is in cc (same, there_)
+    | inr i ↦ w.complete (q ++ at) bytes i (told_below t at q ∙ h)
   ]
 
 from_placed : (at : Path) (items : List PackageFile) (q : Path) (k : ℕ) → Contains (map (placed at) items) (q ++ at, k) → Contains (map file_of items) (q, k)
@@ -223,6 +224,6 @@ to_placed at (f ∷ fs) q k h = elim (in_cons (file_of f) (map file_of fs) (q, k
 -- where no folder is left, all files were found
 pub files_found : (t : Tree) → IsTree t → (at : Path) → t at ≡ Some folder → (items : List PackageFile) (n : ℕ) → Walks t at [] (map (placed at) items) n → IsFilesOf t at (map file_of items)
 files_found t tree at is items n w = record {
-  stands = λ q k i. w.sound (q ++ at) k (to_placed at items q k i);
+  stands = λ q k i. subst (IsFileOf k) (told_below t at q) (w.sound (q ++ at) k (to_placed at items q k i));
   all = λ q bytes h. from_placed at items q (length bytes) (file_seen t tree at is (map (placed at) items) n w q bytes h);
 }

@@ -1,5 +1,5 @@
 -- Why the files of a package aren't told.
-use Rattle.std.specs.Prelude.{◌≡◌, ◌≢◌, ◌<◌, ℕ, ◌++◌, nat_lt, Bool, true, false, Option, Some, None, IfSome, List, find}
+use Rattle.std.specs.Prelude.{◌≡◌, ◌≢◌, ◌<◌, ℕ, nat_lt, Bool, true, false, Option, Some, None, IfSome, List, find}
 use Rattle.std.specs.declared.cmp.Ordering.TheVariants.{Less}
 use Rattle.std.specs.Cmp.Lexicographic.{slice_cmp}
 use Rattle.std.specs.Ordering.{nat_cmp}
@@ -10,7 +10,7 @@ use Rattle.pn_text.specs.Causes.{Rose}
 use Rattle.pn_fs.specs.Tree.{Tree}
 use Rattle.pn_fs.specs.Seen.{Seen}
 use Rattle.pn_read.specs.Small.{IsFileOf}
-use Rattle.pn_registry.specs.Files.{File, file_limit, IsShortBelow}
+use Rattle.pn_registry.specs.Files.{File, file_limit, entry_below, IsShortBelow}
 use Rattle.pn_registry.specs.Below.{HasFew, HasMany}
 use Rattle.pn_registry.specs.declared.contents.FilesFault.{FilesFault}
 use Rattle.pn_registry.specs.declared.contents.FilesFault.TheVariants.{Modules, TooLarge, Entries, Fault, Memory}
@@ -26,13 +26,13 @@ is_large f = nat_lt file_limit f.1
 
 -- Of the files below the folder that are so, this one's path comes first in byte order.
 pub record IsFirstFile (so : File → Bool) (t : Tree) (at : Path) (f : File) : Type 0 where
-  pub stands : IsFileOf f.1 (t (f.0 ++ at))
+  pub stands : IsFileOf f.1 (entry_below t at f.0)
   pub is : so f ≡ true
-  pub first : (q : Path) (n : ℕ) → IsFileOf n (t (q ++ at)) → so (q, n) ≡ true → slice_cmp nat_cmp (text_below q) (text_below f.0) ≢ Less
+  pub first : (q : Path) (n : ℕ) → IsFileOf n (entry_below t at q) → so (q, n) ≡ true → slice_cmp nat_cmp (text_below q) (text_below f.0) ≢ Less
 
 -- no file below the folder is so
 abbrev pub HasNone : (File → Bool) → Tree → Path → Type 0
-HasNone so t at = (q : Path) (n : ℕ) → IsFileOf n (t (q ++ at)) → so (q, n) ≡ false
+HasNone so t at = (q : Path) (n : ℕ) → IsFileOf n (entry_below t at q) → so (q, n) ≡ false
 
 -- There are few entries, and of the files this one is the first with a part `node_modules`.
 pub record IsFirstModules (t : Tree) (at q : Path) : Type 0 where

@@ -5,12 +5,11 @@ use Rattle.pn_text.specs.Causes.{Rose}
 use Rattle.pn_fs.specs.Tree.{Entry, Tree, file}
 use Rattle.pn_fs.specs.Seen.{Seen}
 use Rattle.pn_read.specs.Small.{IsNoFile, IsFileOf}
-use Rattle.pn_manifest.specs.Exact.{Id}
 use Rattle.pn_manifest.specs.Fields.{Spot}
 use Rattle.pn_manifest.specs.Text.{IsObjectText}
 use Rattle.pn_manifest.specs.declared.fault.ManifestWhy.{ManifestWhy}
 use Rattle.pn_manifest.specs.declared.fault.ManifestWhy.TheVariants.{Missing, NotJson, BadField}
-use Rattle.pn_registry.specs.Places.{manifest_path}
+use Rattle.pn_registry.specs.Places.{Id, manifest_path}
 use Rattle.pn_registry.specs.Package.{text_limit, first_wrong_of, IsText}
 use Rattle.pn_registry.specs.declared.package.PackageFault.{PackageFault}
 use Rattle.pn_registry.specs.declared.package.PackageFault.TheVariants.{Wrong, TooLarge, Fault, Memory}

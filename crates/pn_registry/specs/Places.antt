@@ -1,10 +1,13 @@
 -- Where a package stands in a registry.
-use Rattle.std.specs.Prelude.{◌≡◌, ◌<◌, ◌∷◌, length, codes, Option, MatchOption}
+use Rattle.std.specs.Prelude.{◌≡◌, ◌<◌, ◌∷◌, ℕ, List, length, codes, Option, MatchOption}
 use Rattle.pn_text.specs.declared.limits.TheConstants.{PATH_LIMIT}
 use Rattle.pn_text.specs.Path.{Path, path_text}
 use Rattle.pn_text.specs.Ids.{id_name, id_version}
 use Rattle.pn_text.specs.Name.{name_path}
-use Rattle.pn_manifest.specs.Exact.{Id}
+
+-- a package's id as a text
+abbrev pub Id : Type 0
+Id = List ℕ
 
 abbrev pub package_folder : Id → Path
 package_folder id = id_version id ∷ name_path (id_name id)

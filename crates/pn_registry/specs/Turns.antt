@@ -1,14 +1,22 @@
 -- What is found where a folder's entries are listed.
-use Rattle.std.specs.Prelude.{◌≡◌, ◌⊎◌, ◌<◌, ◌+◌, ℕ, List, [], ◌∷◌, ◌++◌, length, Option, Some, None, IfSome}
+use Rattle.std.specs.Prelude.{◌≡◌, ◌⊎◌, ◌<◌, ◌+◌, ◌-◌, ℕ, List, [], ◌∷◌, ◌++◌, length, take, Option, Some, None, IfSome, if◌then◌else◌}
 use Rattle.pn_text.specs.Path.{Path}
 use Rattle.pn_text.specs.Causes.{Rose}
 use Rattle.pn_fs.specs.Tree.{Entry, folder, file, link, Tree}
 use Rattle.pn_fs.specs.Seen.{Seen, GaveAtMost}
 use Rattle.pn_fs.specs.Calls.{IsListing}
-use Rattle.pn_registry.specs.Files.{File}
+use Rattle.pn_registry.specs.Files.{File, holds_line_feed}
 use Rattle.pn_registry.specs.Below.{IsWithin, HasMany}
 use Rattle.pn_registry.specs.declared.walk.WalkFault.{WalkFault}
 use Rattle.pn_registry.specs.declared.walk.WalkFault.TheVariants.{Entries, Fault, Memory}
+
+-- what leads from a folder to a path below it
+abbrev pub path_from : Path → Path → Path
+path_from at p = take (length p - length at) p
+
+-- a tree but for the paths with a line feed in a part below a folder
+abbrev pub without_line_feeds : Path → Tree → Tree
+without_line_feeds at t p = if holds_line_feed (path_from at p) then None else t p
 
 -- the path where a folder stands there
 abbrev pub folder_at : Option Entry → Path → List Path
@@ -34,22 +42,22 @@ abbrev pub files_in : Tree → Path → List (List ℕ) → List File
 files_in t p [] = []
 files_in t p (x ∷ xs) = file_at (t (x ∷ p)) (x ∷ p) ++ files_in t p xs
 
--- One entry was looked at.
-pub record Takes (t : Tree) (p : Path) (x : List ℕ) (todo todo' : List Path) (found found' : List File) : Type 0 where
+-- One entry was looked at, in a walk from the folder `at`.
+pub record Takes (t : Tree) (at p : Path) (x : List ℕ) (todo todo' : List Path) (found found' : List File) : Type 0 where
   pub folders : todo' ≡ todo ++ folder_at (t (x ∷ p)) (x ∷ p)
-  pub files : found' ≡ found ++ file_at (t (x ∷ p)) (x ∷ p)
+  pub files : found' ≡ found ++ file_at (without_line_feeds at t (x ∷ p)) (x ∷ p)
 
 -- These entries were looked at.
-pub record TakesAll (t : Tree) (p : Path) (names : List (List ℕ)) (todo todo' : List Path) (found found' : List File) : Type 0 where
+pub record TakesAll (t : Tree) (at p : Path) (names : List (List ℕ)) (todo todo' : List Path) (found found' : List File) : Type 0 where
   pub folders : todo' ≡ todo ++ folders_in t p names
-  pub files : found' ≡ found ++ files_in t p names
+  pub files : found' ≡ found ++ files_in (without_line_feeds at t) p names
 
 -- A folder was listed, and each of its n entries looked at.
-pub record Lists (t : Tree) (p : Path) (n : ℕ) (todo todo' : List Path) (found found' : List File) : Type 0 where
+pub record Lists (t : Tree) (at p : Path) (n : ℕ) (todo todo' : List Path) (found found' : List File) : Type 0 where
   pub names : List (List ℕ)
   pub listing : IsListing t p names
   pub count : n ≡ length names
-  pub takes : TakesAll t p names todo todo' found found'
+  pub takes : TakesAll t at p names todo todo' found found'
 
 -- a folder with more entries than that
 pub record IsFull (t : Tree) (p : Path) (room : ℕ) : Type 0 where

@@ -39,7 +39,8 @@ pub enum FilesFault {
     Memory,
 }
 
-/// All the files at any depth below a package's folder, none below another one. Links are passed over.
+/// All the files at any depth below a package's folder, none below another one. Links are passed over, and so is a
+/// file with a line feed in its path there.
 pub fn files<R: ReadFs>(alloc: Global, registry: &mut R, id: &PkgId) -> Result<Files, FilesFault>
     requires { ForSome (R.seen registry.old).tree (λ t. t (package_folder id.now) ≡ Some folder) }
     ensures files { IfSome (R.seen registry.old).tree (λ t. IfOk result (IsFilesOf t (package_folder id.now))) }

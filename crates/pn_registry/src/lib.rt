@@ -1,7 +1,7 @@
 //! A registry: a tree in which the folder `/<name>/<version>` holds a package, a scoped name being two
 //! parts. The calls tell whether a package stands there, what its `package.json` says, and which files
-//! it has. They only read, and where the tree is told each answer and each refusal is exact: it settles one
-//! list of files (`files_same_law`) or one refusal (`files_cause_law`), never both (`files_passed_law`), and
+//! it has, those with a line feed in their path aside. They only read, and where the tree is told each
+//! answer and each refusal is exact: it settles one list of files (`files_same_law`) or one refusal (`files_cause_law`), never both (`files_passed_law`), and
 //! of manifests likewise (`manifest_same_law`, `manifest_cause_law`, `manifest_passed_law`).
 #![tactic(auto)]
 

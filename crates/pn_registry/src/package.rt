@@ -5,7 +5,9 @@ ghost use Rattle.semver.specs.Identifiers.{parts_of};
 ghost use Rattle.pn_text.specs.declared.limits.TheConstants.{TEXT_LIMIT};
 ghost use Rattle.pn_fs.specs.Seen.{Keeps, GaveAtMost};
 ghost use Rattle.pn_registry.specs.Places.{manifest_path};
-ghost use Rattle.pn_registry.specs.Package.{IsRead, IsFound, has_text, stated_other};
+ghost use Rattle.pn_registry.specs.Package.{IsRead, IsFound, states, has_text, stated_other};
+ghost use Rattle.pn_manifest.specs.Said.{IsRisingSaid};
+ghost use Rattle.pn_manifest.specs.Says.{said_of};
 ghost use Rattle.pn_manifest.specs.Text.{IsObjectText};
 ghost use Rattle.pn_registry.specs.PackageFaults.{PackageRefused, TextRefused, IsOther};
 
@@ -13,7 +15,7 @@ use crate::folder::manifest_path;
 use pn_fs::ReadFs;
 use pn_manifest::{Manifest, ManifestFault, ManifestWhy};
 use pn_read::{SmallFault, read_small};
-use pn_text::{AbsPath, Memory, PkgId, TEXT_LIMIT, Text};
+use pn_text::{AbsPath, Memory, PkgId, PkgName, TEXT_LIMIT, Text};
 use semver::Version;
 use std::alloc::Global;
 use thiserror::Error;
@@ -41,6 +43,7 @@ pub fn manifest<R: ReadFs>(
 ) -> Result<Manifest, PackageFault>
     ensures found { IfSome (R.seen registry.old).tree (λ t. IfOk result (IsFound id.now (t (manifest_path id.now)))) }
     ensures read { IfOk result (λ m. (d : Data) × IsRead id.now d m) }
+    ensures rising { IfOk result (λ m. IsRisingSaid (said_of m)) }
     ensures gave { IfSome (R.seen registry.old).tree (λ t. GaveAtMost (R.seen registry.old) (TEXT_LIMIT + 1) 0 (R.seen registry.new)) }
     ensures kept { Keeps (R.seen registry.old) (R.seen registry.new) }
     ensures fault { IfErr result (PackageRefused id.now (R.seen registry.old) (R.seen registry.new)) }
@@ -61,6 +64,7 @@ fn read_at<R: ReadFs>(
     requires { path.now ≡ manifest_path id.now }
     ensures found { IfSome (R.seen registry.old).tree (λ t. IfOk result (IsFound id.now (t (manifest_path id.now)))) }
     ensures read { IfOk result (λ m. (d : Data) × IsRead id.now d m) }
+    ensures rising { IfOk result (λ m. IsRisingSaid (said_of m)) }
     ensures gave { IfSome (R.seen registry.old).tree (λ t. GaveAtMost (R.seen registry.old) (TEXT_LIMIT + 1) 0 (R.seen registry.new)) }
     ensures kept { Keeps (R.seen registry.old) (R.seen registry.new) }
     ensures fault { IfErr result (PackageRefused id.now (R.seen registry.old) (R.seen registry.new)) }
@@ -77,6 +81,7 @@ fn read_at<R: ReadFs>(
 // The manifest that the bytes say.
 fn parse(alloc: Global, id: &PkgId, bytes: &[u8]) -> Result<Manifest, PackageFault>
     ensures read { IfOk result (λ m. (d : Data) × IsObjectText bytes.now d × IsRead id.now d m) }
+    ensures rising { IfOk result (λ m. IsRisingSaid (said_of m)) }
     ensures refused { IfErr result (TextRefused id.now bytes.now) }
 {
     match Manifest::read(alloc, bytes) {
@@ -94,13 +99,23 @@ fn states_own(alloc: Global, id: &PkgId, manifest: &Manifest) -> Result<(), Pack
     ensures own { OnOk result (stated_other id.now manifest.now.name (option_map parts_of manifest.now.version) ≡ None) }
     ensures other { IfErr result (IsOther (stated_other id.now manifest.now.name (option_map parts_of manifest.now.version))) }
 {
-    if !manifest.is_own(id.name()) {
+    if !has_name(&manifest.name, id.name()) {
         return Err(bad_field(alloc, "name"));
     }
     if !has_version(alloc, &manifest.version, id.version_text())? {
         return Err(bad_field(alloc, "version"));
     }
     Ok(())
+}
+
+// Whether a name that is stated is this one.
+fn has_name(stated: &Option<PkgName>, name: &PkgName) -> bool
+    ensures { result ≡ states stated.now name.now }
+{
+    match stated {
+        Some(own) => own.as_str() == name.as_str(),
+        None => false,
+    }
 }
 
 // Whether a version has this text.

@@ -26,6 +26,10 @@ fn registry(alloc: Global) -> Result<SureFs, Fail> {
         "/a/1.0.0/a",
         "/a/2.0.0",
         "/a/2.0.0/node_modules",
+        "/a/4.0.0",
+        "/a/5.0.0",
+        "/a/4.0.0/c\nd",
+        "/a/4.0.0/c\nd/node_modules",
     ] {
         put(alloc, &mut fs, folder, &Body::Folder)?;
     }
@@ -46,6 +50,17 @@ fn registry(alloc: Global) -> Result<SureFs, Fail> {
         r#"{"name":"b","version":"2.0.0"}"#,
     )?;
     file(alloc, &mut fs, "/a/2.0.0/node_modules/k", "")?;
+    file(
+        alloc,
+        &mut fs,
+        "/a/5.0.0/package.json",
+        r#"{"name":"a","version":"5.0.1"}"#,
+    )?;
+    file(alloc, &mut fs, "/a/4.0.0/a", "")?;
+    file(alloc, &mut fs, "/a/4.0.0/a\nb", "")?;
+    file(alloc, &mut fs, "/a/4.0.0/b", "1")?;
+    file(alloc, &mut fs, "/a/4.0.0/c\nd/e", "")?;
+    file(alloc, &mut fs, "/a/4.0.0/c\nd/node_modules/k", "")?;
     Ok(fs)
 }
 
@@ -92,6 +107,7 @@ fn files_are_in_byte_order(rt: HostRuntime) -> Result<(), Fail> {
         ("1.0.0", "a-b+ a/x package.json+ "),
         ("2.0.0", "node_modules/k"),
         ("3.0.0", "none"),
+        ("4.0.0", "a b+ "),
     ] {
         let answer = listed(alloc, version)?;
         assert_eq!(rt; answer.as_str(), text);
@@ -118,12 +134,13 @@ fn wrong(alloc: Global, version: &str) -> Result<String, Fail> {
 }
 
 #[test]
-fn a_package_states_its_own_name(rt: HostRuntime) -> Result<(), Fail> {
+fn a_package_states_its_own_name_and_version(rt: HostRuntime) -> Result<(), Fail> {
     let alloc = rt.alloc();
     for (version, text) in [
         ("1.0.0", "nothing"),
         ("2.0.0", "name"),
         ("3.0.0", "missing"),
+        ("5.0.0", "version"),
     ] {
         let answer = wrong(alloc, version)?;
         assert_eq!(rt; answer.as_str(), text);

@@ -1,5 +1,5 @@
 // Walks through a folder and all folders below it.
-ghost use Rattle.std.specs.Prelude.{◌≡◌, ◌≢◌, ◌+◌, ◌≤◌, ◌++◌, ◌∷◌, [], OnOk, OnErr, IfOk, IfErr, IfSome, Some, IsTrue, length, map, vec_len, drop, ◌^◌, ◌<◌, ℕ, List};
+ghost use Rattle.std.specs.Prelude.{◌≡◌, ◌≢◌, ◌+◌, ◌≤◌, ◌++◌, ◌∷◌, [], OnOk, OnErr, IfOk, IfErr, IfSome, Some, IsTrue, length, map, vec_len, drop, ◌^◌, ◌<◌, ℕ, List, if◌then◌else◌};
 ghost use Rattle.std.specs.Option.{ForSome};
 ghost use Rattle.std.specs.List.{All};
 ghost use Rattle.pn_text.specs.Path.{is_part, path_text};
@@ -7,10 +7,10 @@ ghost use Rattle.pn_text.specs.declared.limits.TheConstants.{PATH_LIMIT};
 ghost use Rattle.pn_fs.specs.Tree.{folder};
 ghost use Rattle.pn_fs.specs.Seen.{Keeps, GaveNothing, GaveNames, GaveAtMost};
 ghost use Rattle.pn_fs.specs.Calls.{IsListing, IsEntryName};
-ghost use Rattle.pn_registry.specs.Files.{IsFilesOf, IsShortBelow};
+ghost use Rattle.pn_registry.specs.Files.{IsFilesOf, IsShortBelow, holds_line_feed};
 ghost use Rattle.pn_registry.specs.Below.{IsWithin, AllWithin, HasFew};
 ghost use Rattle.pn_registry.specs.Listed.{file_of, placed, IsShortFile};
-ghost use Rattle.pn_registry.specs.Turns.{Takes, TakesAll, Lists, ListRefused, CallRefused, WalkRefused, GaveListings};
+ghost use Rattle.pn_registry.specs.Turns.{path_from, Takes, TakesAll, Lists, ListRefused, CallRefused, WalkRefused, GaveListings};
 
 use crate::list::PackageFile;
 use pn_fs::{Kind, ReadFs};
@@ -29,7 +29,8 @@ pub enum WalkFault {
     Memory,
 }
 
-/// All the files below a folder other than `/`, in no order, where at most `limit` entries stand below it.
+/// All the files below a folder other than `/`, in no order, but for those with a line feed in their path there,
+/// where at most `limit` entries stand below it.
 pub fn walk<R: ReadFs>(
     alloc: Global,
     registry: &mut R,
@@ -77,7 +78,7 @@ fn list_folder<R: ReadFs>(
     requires within { IsWithin at.now parent.now }
     requires all_within { AllWithin at.now todo.old.items }
     requires short { All (IsShortFile at.now) found.old.items }
-    ensures lists { IfSome (R.seen registry.old).tree (λ t. IfOk result (λ n. Lists t parent.now n todo.old.items todo.new.items (map (placed at.now) found.old.items) (map (placed at.now) found.new.items))) }
+    ensures lists { IfSome (R.seen registry.old).tree (λ t. IfOk result (λ n. Lists t at.now parent.now n todo.old.items todo.new.items (map (placed at.now) found.old.items) (map (placed at.now) found.new.items))) }
     ensures room { IfOk result (λ n. n ≤ room) }
     ensures grows { IfOk result (λ n. vec_len todo.new ≤ vec_len todo.old + n) }
     ensures all_within { OnOk result (AllWithin at.now todo.new.items) }
@@ -126,7 +127,7 @@ fn take_all<R: ReadFs>(
     requires within { IsWithin at.now parent.now }
     requires all_within { AllWithin at.now todo.old.items }
     requires short { All (IsShortFile at.now) found.old.items }
-    ensures takes { IfSome (R.seen registry.old).tree (λ t. OnOk result (TakesAll t parent.now names.now todo.old.items todo.new.items (map (placed at.now) found.old.items) (map (placed at.now) found.new.items))) }
+    ensures takes { IfSome (R.seen registry.old).tree (λ t. OnOk result (TakesAll t at.now parent.now names.now todo.old.items todo.new.items (map (placed at.now) found.old.items) (map (placed at.now) found.new.items))) }
     ensures grows { OnOk result (vec_len todo.new ≤ vec_len todo.old + length names.now) }
     ensures all_within { OnOk result (AllWithin at.now todo.new.items) }
     ensures short { OnOk result (All (IsShortFile at.now) found.new.items) }
@@ -140,7 +141,7 @@ fn take_all<R: ReadFs>(
     Ok(())
 }
 
-// A folder is to be listed, a file is found, and a link is passed over.
+// A folder is to be listed, a file is found, and a link is passed over, as a file with a line feed in its path is.
 fn take<R: ReadFs>(
     alloc: Global,
     registry: &mut R,
@@ -155,7 +156,7 @@ fn take<R: ReadFs>(
     requires within { IsWithin at.now parent.now }
     requires all_within { AllWithin at.now todo.old.items }
     requires short { All (IsShortFile at.now) found.old.items }
-    ensures takes { IfSome (R.seen registry.old).tree (λ t. OnOk result (Takes t parent.now name.now todo.old.items todo.new.items (map (placed at.now) found.old.items) (map (placed at.now) found.new.items))) }
+    ensures takes { IfSome (R.seen registry.old).tree (λ t. OnOk result (Takes t at.now parent.now name.now todo.old.items todo.new.items (map (placed at.now) found.old.items) (map (placed at.now) found.new.items))) }
     ensures grows { OnOk result (vec_len todo.new ≤ vec_len todo.old + 1) }
     ensures all_within { OnOk result (AllWithin at.now todo.new.items) }
     ensures short { OnOk result (All (IsShortFile at.now) found.new.items) }
@@ -204,13 +205,22 @@ fn push_file(
     requires within { IsWithin at.now path.now }
     requires below { path.now ≢ at.now }
     requires short { All (IsShortFile at.now) found.old.items }
-    ensures items { OnOk result (map (placed at.now) found.new.items ≡ map (placed at.now) found.old.items ++ (path.now, length) ∷ []) }
+    ensures items { OnOk result (map (placed at.now) found.new.items ≡ map (placed at.now) found.old.items ++ (if holds_line_feed (path_from at.now path.now) then [] else (path.now, length) ∷ [])) }
     ensures short { OnOk result (All (IsShortFile at.now) found.new.items) }
     ensures memory { IfErr result (λ e. e ≡ WalkFault.Memory) }
 {
     let path = below(alloc, at, path)?;
+    if has_line_feed(&path) {
+        return Ok(());
+    }
     found.push(PackageFile { path, length })?;
     Ok(())
+}
+
+fn has_line_feed(path: &RelPath) -> bool
+    ensures { result ≡ holds_line_feed path.now }
+{
+    path.as_str().as_bytes().contains(&b'\n')
 }
 
 // The path of an entry from a folder above it.

@@ -23,7 +23,7 @@ turns_more k j (n ∷ a) b e =
     ap (λ (l : List Turn). map (turn_by (at_package k)) n.wishes ++ l) (turns_more (suc k) j a b (omega (arith, e)))
     ∙ sym (append_assoc (map (turn_by (at_package k)) n.wishes) (turns_of (suc k) a) (turns_of j b))
 
-get_front : (xs ys : List Id) (k : ℕ) (i : Id) → slice_get xs k ≡ Some i → slice_get (xs ++ ys) k ≡ Some i
+pub get_front : (xs ys : List Id) (k : ℕ) (i : Id) → slice_get xs k ≡ Some i → slice_get (xs ++ ys) k ≡ Some i
 get_front [] ys k i h = cc
 get_front (x ∷ xs) ys zero i h = h
 get_front (x ∷ xs) ys (suc k) i h = get_front xs ys k i h
@@ -169,7 +169,7 @@ landed leads node own met added None to once reached h = known leads node own me
 landed leads node own met added (Some (to_project q)) to once reached h = known leads node own met added (Some (to_project q)) to once h.at h.only
 landed leads node own met added (Some (to_package i)) to once reached h = landed_at leads node own met added i (place_of i met) to refl once (reached i refl) h
 
-both_asked : (who : Place) (xs ys : List Turn) → asked_by who (xs ++ ys) ≡ asked_by who xs ++ asked_by who ys
+pub both_asked : (who : Place) (xs ys : List Turn) → asked_by who (xs ++ ys) ≡ asked_by who xs ++ asked_by who ys
 both_asked who xs ys = filter-append (λ (e : Turn). same_place e.who who) xs ys
 
 same_number : (n : ℕ) → (n == n) ≡ true
@@ -196,10 +196,10 @@ from_asked : (who : Place) (xs : List Turn) (e : Turn) → Contains (asked_by wh
 from_asked who xs e c = All-contains (Contains xs) (asked_by who xs) e (All-filter (λ (x : Turn). same_place x.who who) (Contains xs) xs (All-contains_itself xs)) c
 
 -- an edge of one list is in another where its node asks for the same in both
-moved : (e : Turn) (xs ys : List Turn) → asked_by e.who xs ≡ asked_by e.who ys → Contains xs e → Contains ys e
+pub moved : (e : Turn) (xs ys : List Turn) → asked_by e.who xs ≡ asked_by e.who ys → Contains xs e → Contains ys e
 moved e xs ys same c = from_asked e.who ys e (subst (λ (l : List Turn). Contains l e) same (keeps_own e xs c))
 
-all_taken : (leads : Wish → Option Aim → Type 0) (node : Node → Type 0) (own : List Turn) (t : State) (who : Place) → Fits leads node own t → t.todo ≡ [] → asked_by who (map turn_of t.links) ≡ asked_by who (own ++ turns_of 0 t.met)
+pub all_taken : (leads : Wish → Option Aim → Type 0) (node : Node → Type 0) (own : List Turn) (t : State) (who : Place) → Fits leads node own t → t.todo ≡ [] → asked_by who (map turn_of t.links) ≡ asked_by who (own ++ turns_of 0 t.met)
 all_taken leads node own t who h none = ap (asked_by who) (sym (append-nil (map turn_of t.links)) ∙ ap (λ (x : List Turn). map turn_of t.links ++ x) (sym none)) ∙ h.edges who
 
 -- The first edge that waits is asked for by what is reached.

@@ -56,9 +56,9 @@ took_on leads node xs ys q r s a b = record {
       (subst (λ (l : List Turn). Walk leads node (at ((rest ++ T) ++ U) s) (at l q)) (sym (append_assoc xs ys rest)) both);
 }
 
-pub stops_on : {F : Type 0} (leads : Wish → Option Aim → Type 0) (node : Node → Type 0) (lost : Wish → F → Type 0) (unread : Id → F → Type 0) (xs ys zs all : List Turn) (q r : Queue) (f : WalkFault F)
-    → all ≡ xs ++ (ys ++ zs) → TookAll leads node xs q r → StopsIn leads node lost unread ys r f → StopsIn leads node lost unread all q f
-stops_on leads node lost unread xs ys zs all q r f is a b = record {
+pub stops_on : {F : Type 0} (leads : Wish → Option Aim → Type 0) (node : Node → Type 0) (lost : Wish → F → Type 0) (unread : Id → F → Type 0) (folders : List (List ℕ)) (xs ys zs all : List Turn) (q r : Queue) (f : WalkFault F)
+    → all ≡ xs ++ (ys ++ zs) → TookAll leads node xs q r → StopsIn leads node lost unread folders ys r f → StopsIn leads node lost unread folders all q f
+stops_on leads node lost unread folders xs ys zs all q r f is a b = record {
   front = xs ++ b.front;
   edge = b.edge;
   rest = b.rest ++ zs;
@@ -94,8 +94,8 @@ more_first k ps ws h is =
     starts_more 0 k ps ws h is ∙ ap (λ (n : ℕ). turns_from 0 (take k ps) ++ map (turn_by (at_project n)) ws) z
 
 -- All edges are taken, or one is refused, behind those of the projects.
-pub stops_first : {F : Type 0} (leads : Wish → Option Aim → Type 0) (node : Node → Type 0) (lost : Wish → F → Type 0) (unread : Id → F → Type 0) (own : List Turn) (q : Queue) (f : WalkFault F) → q.nodes.items ≡ [] → q.links.items ≡ [] → StopsIn leads node lost unread own q f → StopsSomewhere leads node lost unread (start own) f
-stops_first leads node lost unread own q f no_nodes no_links a =
+pub stops_first : {F : Type 0} (leads : Wish → Option Aim → Type 0) (node : Node → Type 0) (lost : Wish → F → Type 0) (unread : Id → F → Type 0) (folders : List (List ℕ)) (own : List Turn) (q : Queue) (f : WalkFault F) → q.nodes.items ≡ [] → q.links.items ≡ [] → StopsIn leads node lost unread folders own q f → StopsSomewhere leads node lost unread folders (start own) f
+stops_first leads node lost unread folders own q f no_nodes no_links a =
     let T = turns_of (length q.nodes.items) a.took.added in
     let from : at (a.front ++ a.edge ∷ a.rest) q ≡ start own = ap (λ (l : List Turn). at l q) (sym a.is) ∙ begins own q no_nodes no_links in
     record {
@@ -110,21 +110,21 @@ stops_first leads node lost unread own q f no_nodes no_links a =
     }
 
 -- a stop behind a walk
-stopped_later : {F : Type 0} (leads leads' : Wish → Option Aim → Type 0) (node node' : Node → Type 0) (lost lost' : Wish → F → Type 0) (unread unread' : Id → F → Type 0) (m s : State) (f : WalkFault F)
-    → Keeps leads leads' node node' lost lost' unread unread' → Walk leads node m s → StopsSomewhere leads' node' lost' unread' m f → StopsSomewhere leads node lost unread s f
-stopped_later leads leads' node node' lost lost' unread unread' m s f k w a = record {
+stopped_later : {F : Type 0} (leads leads' : Wish → Option Aim → Type 0) (node node' : Node → Type 0) (lost lost' : Wish → F → Type 0) (unread unread' : Id → F → Type 0) (folders : List (List ℕ)) (m s : State) (f : WalkFault F)
+    → Keeps leads leads' node node' lost lost' unread unread' → Walk leads node m s → StopsSomewhere leads' node' lost' unread' folders m f → StopsSomewhere leads node lost unread folders s f
+stopped_later leads leads' node node' lost lost' unread unread' folders m s f k w a = record {
   end = a.end;
   stopped = record {
     walk = walk_on leads node m a.end s w (walk_from leads leads' node node' lost lost' unread unread' a.end m k a.stopped.walk);
     turn = a.stopped.turn;
     rest = a.stopped.rest;
     next = a.stopped.next;
-    why = refused_from leads leads' node node' lost lost' unread unread' a.end.met a.stopped.turn.wish f k a.stopped.why;
+    why = refused_from leads leads' node node' lost lost' unread unread' folders a.end.met a.stopped.turn f k a.stopped.why;
   };
 }
 
-pub stops_later : {F : Type 0} (leads leads' : Wish → Option Aim → Type 0) (node node' : Node → Type 0) (lost lost' : Wish → F → Type 0) (unread unread' : Id → F → Type 0) (m s : State) (f : WalkFault F)
-    → Keeps leads leads' node node' lost lost' unread unread' → Walk leads node m s → Stops leads' node' lost' unread' m f → Stops leads node lost unread s f
-stops_later leads leads' node node' lost lost' unread unread' m s (Ways x) k w a = stopped_later leads leads' node node' lost lost' unread unread' m s (Ways x) k w a
-stops_later leads leads' node node' lost lost' unread unread' m s (Packages n) k w a = stopped_later leads leads' node node' lost lost' unread unread' m s (Packages n) k w a
-stops_later leads leads' node node' lost lost' unread unread' m s Memory k w a = tt
+pub stops_later : {F : Type 0} (leads leads' : Wish → Option Aim → Type 0) (node node' : Node → Type 0) (lost lost' : Wish → F → Type 0) (unread unread' : Id → F → Type 0) (folders : List (List ℕ)) (m s : State) (f : WalkFault F)
+    → Keeps leads leads' node node' lost lost' unread unread' → Walk leads node m s → Stops leads' node' lost' unread' folders m f → Stops leads node lost unread folders s f
+stops_later leads leads' node node' lost lost' unread unread' folders m s (Ways e x) k w a = stopped_later leads leads' node node' lost lost' unread unread' folders m s (Ways e x) k w a
+stops_later leads leads' node node' lost lost' unread unread' folders m s (Packages n) k w a = stopped_later leads leads' node node' lost lost' unread unread' folders m s (Packages n) k w a
+stops_later leads leads' node node' lost lost' unread unread' folders m s Memory k w a = tt

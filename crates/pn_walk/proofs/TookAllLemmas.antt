@@ -44,9 +44,9 @@ took_next leads node who ws i w q r s h is a b =
     (took_more leads node (map (turn_by who) (take i ws)) (turn_by who w) q r s a b)
 
 -- one of the edges is refused
-pub stops_in : {F : Type 0} (leads : Wish → Option Aim → Type 0) (node : Node → Type 0) (lost : Wish → F → Type 0) (unread : Id → F → Type 0) (who : Place) (ws : List Wish) (i : ℕ) (w : Wish) (q r : Queue) (f : WalkFault F)
-    → i < length ws → w ≡ get_or ws i w → TookAll leads node (map (turn_by who) (take i ws)) q r → EdgeRefused leads node lost unread r.nodes.items w f → StopsIn leads node lost unread (map (turn_by who) ws) q f
-stops_in leads node lost unread who ws i w q r f h is a refused = record {
+pub stops_in : {F : Type 0} (leads : Wish → Option Aim → Type 0) (node : Node → Type 0) (lost : Wish → F → Type 0) (unread : Id → F → Type 0) (folders : List (List ℕ)) (who : Place) (ws : List Wish) (i : ℕ) (w : Wish) (q r : Queue) (f : WalkFault F)
+    → i < length ws → w ≡ get_or ws i w → TookAll leads node (map (turn_by who) (take i ws)) q r → EdgeRefused leads node lost unread folders r.nodes.items (turn_by who w) f → StopsIn leads node lost unread folders (map (turn_by who) ws) q f
+stops_in leads node lost unread folders who ws i w q r f h is a refused = record {
   front = map (turn_by who) (take i ws);
   edge = turn_by who w;
   rest = map (turn_by who) (drop (suc i) ws);
@@ -88,9 +88,9 @@ walk_at leads node s k n q r h is w a =
     subst (λ (j : ℕ). Walk leads node (at (turns_of j (drop j r.nodes.items)) r) s) (sym (add-one k)) (subst (λ (l : List Turn). Walk leads node (at l r) s) next all)
 
 -- One of its edges is refused.
-pub stops_at : {F : Type 0} (leads : Wish → Option Aim → Type 0) (node : Node → Type 0) (lost : Wish → F → Type 0) (unread : Id → F → Type 0) (s : State) (k : ℕ) (n : Node) (q : Queue) (f : WalkFault F) → k < length q.nodes.items → n ≡ get_or q.nodes.items k n
-    → Walk leads node (at (turns_of k (drop k q.nodes.items)) q) s → StopsIn leads node lost unread (map (turn_by (at_package k)) n.wishes) q f → StopsSomewhere leads node lost unread s f
-stops_at leads node lost unread s k n q f h is w a =
+pub stops_at : {F : Type 0} (leads : Wish → Option Aim → Type 0) (node : Node → Type 0) (lost : Wish → F → Type 0) (unread : Id → F → Type 0) (folders : List (List ℕ)) (s : State) (k : ℕ) (n : Node) (q : Queue) (f : WalkFault F) → k < length q.nodes.items → n ≡ get_or q.nodes.items k n
+    → Walk leads node (at (turns_of k (drop k q.nodes.items)) q) s → StopsIn leads node lost unread folders (map (turn_by (at_package k)) n.wishes) q f → StopsSomewhere leads node lost unread folders s f
+stops_at leads node lost unread folders s k n q f h is w a =
     let ns = q.nodes.items in
     let rest = turns_of (suc k) (drop (suc k) ns) in
     let now : turns_of k (drop k ns) ≡ a.front ++ (a.edge ∷ (a.rest ++ rest)) =
@@ -147,19 +147,19 @@ took_all_from leads leads' node node' lost lost' unread unread' edges q r k a = 
   walks = λ rest. walk_from leads leads' node node' lost lost' unread unread' (at (rest ++ turns_of (length q.nodes.items) a.added) r) (at (edges ++ rest) q) k (a.walks rest);
 }
 
-pub stops_in_from : {F : Type 0} (leads leads' : Wish → Option Aim → Type 0) (node node' : Node → Type 0) (lost lost' : Wish → F → Type 0) (unread unread' : Id → F → Type 0) (edges : List Turn) (q : Queue) (f : WalkFault F)
-    → Keeps leads leads' node node' lost lost' unread unread' → StopsIn leads' node' lost' unread' edges q f → StopsIn leads node lost unread edges q f
-stops_in_from leads leads' node node' lost lost' unread unread' edges q f k a = record {
+pub stops_in_from : {F : Type 0} (leads leads' : Wish → Option Aim → Type 0) (node node' : Node → Type 0) (lost lost' : Wish → F → Type 0) (unread unread' : Id → F → Type 0) (folders : List (List ℕ)) (edges : List Turn) (q : Queue) (f : WalkFault F)
+    → Keeps leads leads' node node' lost lost' unread unread' → StopsIn leads' node' lost' unread' folders edges q f → StopsIn leads node lost unread folders edges q f
+stops_in_from leads leads' node node' lost lost' unread unread' folders edges q f k a = record {
   front = a.front;
   edge = a.edge;
   rest = a.rest;
   there = a.there;
   is = a.is;
   took = took_all_from leads leads' node node' lost lost' unread unread' a.front q a.there k a.took;
-  why = refused_from leads leads' node node' lost lost' unread unread' a.there.nodes.items a.edge.wish f k a.why;
+  why = refused_from leads leads' node node' lost lost' unread unread' folders a.there.nodes.items a.edge f k a.why;
 }
 
-pub stops : {F : Type 0} (leads : Wish → Option Aim → Type 0) (node : Node → Type 0) (lost : Wish → F → Type 0) (unread : Id → F → Type 0) (s : State) (f : WalkFault F) → StopsSomewhere leads node lost unread s f → Stops leads node lost unread s f
-stops leads node lost unread s (Ways f) h = h
-stops leads node lost unread s (Packages n) h = h
-stops leads node lost unread s Memory h = tt
+pub stops : {F : Type 0} (leads : Wish → Option Aim → Type 0) (node : Node → Type 0) (lost : Wish → F → Type 0) (unread : Id → F → Type 0) (folders : List (List ℕ)) (s : State) (f : WalkFault F) → StopsSomewhere leads node lost unread folders s f → Stops leads node lost unread folders s f
+stops leads node lost unread folders s (Ways e f) h = h
+stops leads node lost unread folders s (Packages n) h = h
+stops leads node lost unread folders s Memory h = tt

@@ -8,6 +8,8 @@ use Rattle.pn_walk.specs.Keeps.{Keeps}
 use Rattle.pn_walk.specs.declared.state.Queue.{Queue}
 use Rattle.pn_walk.specs.declared.fault.WalkFault.{WalkFault}
 use Rattle.pn_walk.specs.declared.fault.WalkFault.TheVariants.{Ways, Packages, Memory}
+use Rattle.pn_text.specs.declared.ids.Edge.{Edge}
+use Rattle.pn_walk.specs.Edges.{asker, IsEdgeOf, AskedFrom, NamesEdge, IsNamed}
 use Rattle.pn_walk.specs.Calls.{link_of, Met, Took, EdgeRefused, IsTooMany, OnWays}
 
 pub met_before : (node : Node → Type 0) (i : Id) (q : Queue) (k : ℕ) → Some k ≡ place_of i q.nodes.items → Met node i (at_package k) q q
@@ -27,11 +29,34 @@ met_now node i n q r to is found here room place grows links = record {
   lands = subst (λ (o : Option ℕ). LandsAt node q.nodes.items i o (Some to) (n ∷ [])) is (record { new = n; is = found; here = here; room = room; at = ap Some place; only = refl });
 }
 
-pub too_many : {F : Type 0} (leads : Wish → Option Aim → Type 0) (node : Node → Type 0) (lost : Wish → F → Type 0) (unread : Id → F → Type 0) (met : List Node) (w : Wish) (i : Id) (n : Node) (f : WalkFault F)
-    → leads w (Some (to_package i)) → None ≡ place_of i met → node n → n.id ≡ i → IsTooMany met f → EdgeRefused leads node lost unread met w f
-too_many leads node lost unread met w i n (Ways f) aims fresh is here h = absurd h
-too_many leads node lost unread met w i n (Packages c) aims fresh is here h = (h.0, record { id = i; aims = aims; fresh = sym fresh; why = record { found = n; is = is; here = here; full = h.1 } })
-too_many leads node lost unread met w i n Memory aims fresh is here h = tt
+pub too_many : {F : Type 0} (leads : Wish → Option Aim → Type 0) (node : Node → Type 0) (lost : Wish → F → Type 0) (unread : Id → F → Type 0) (folders : List (List ℕ)) (met : List Node) (e : Turn) (i : Id) (n : Node) (f : WalkFault F)
+    → leads e.wish (Some (to_package i)) → None ≡ place_of i met → node n → n.id ≡ i → IsTooMany met f → EdgeRefused leads node lost unread folders met e f
+too_many leads node lost unread folders met e i n (Ways x f) aims fresh is here h = absurd h
+too_many leads node lost unread folders met e i n (Packages c) aims fresh is here h = (h.0, record { id = i; aims = aims; fresh = sym fresh; why = record { found = n; is = is; here = here; full = h.1 } })
+too_many leads node lost unread folders met e i n Memory aims fresh is here h = tt
+
+edge_of : {F : Type 0} (folders : List (List ℕ)) (met : List Node) (who : Place) (text : List ℕ) (w : Wish) (f g : F) (x : Edge) → asker folders met who ≡ Some text → NamesEdge text w f x g → IsEdgeOf folders met (turn_by who w) x
+edge_of folders met who text w f g x asks n = record { from = asks ∙ ap Some (sym n.from); alias = n.alias; specifier = n.specifier }
+
+-- an edge that is refused for what its wish meets
+pub refused_lost : {F : Type 0} (leads : Wish → Option Aim → Type 0) (node : Node → Type 0) (lost : Wish → F → Type 0) (unread : Id → F → Type 0) (met : List Node) (who : Place) (text : List ℕ) (w : Wish) (f : F) (r : WalkFault F)
+    → lost w f → IsNamed text w f r → AskedFrom text met who (λ folders. EdgeRefused leads node lost unread folders met (turn_by who w) r)
+refused_lost leads node lost unread met who text w f (Ways x g) h n = λ folders asks. (edge_of folders met who text w f g x asks n, inl (subst (lost w) (sym n.why) h))
+refused_lost leads node lost unread met who text w f (Packages c) h n = absurd n
+refused_lost leads node lost unread met who text w f Memory h n = λ folders asks. tt
+
+-- or for its package
+pub refused_unread : {F : Type 0} (leads : Wish → Option Aim → Type 0) (node : Node → Type 0) (lost : Wish → F → Type 0) (unread : Id → F → Type 0) (met : List Node) (who : Place) (text : List ℕ) (w : Wish) (i : Id) (f : F) (r : WalkFault F)
+    → leads w (Some (to_package i)) → None ≡ place_of i met → unread i f → IsNamed text w f r → AskedFrom text met who (λ folders. EdgeRefused leads node lost unread folders met (turn_by who w) r)
+refused_unread leads node lost unread met who text w i f (Ways x g) aims fresh h n = λ folders asks. (edge_of folders met who text w f g x asks n, inr (record { id = i; aims = aims; fresh = sym fresh; why = subst (unread i) (sym n.why) h }))
+refused_unread leads node lost unread met who text w i f (Packages c) aims fresh h n = absurd n
+refused_unread leads node lost unread met who text w i f Memory aims fresh h n = λ folders asks. tt
+
+-- what a refusal says of the calls before it stays where it is named
+pub on_named : {F : Type 0} (P : F → Type 0) (text : List ℕ) (w : Wish) (f : F) (r : WalkFault F) → P f → IsNamed text w f r → OnWays P r
+on_named P text w f (Ways x g) h n = subst P (sym n.why) h
+on_named P text w f (Packages c) h n = absurd n
+on_named P text w f Memory h n = tt
 
 abbrev state : List Turn → List Node → List Link → State
 state todo met links = record { todo = todo; met = met; links = links }
@@ -97,15 +122,20 @@ took_from leads leads' node node' lost lost' unread unread' e q s k t = record {
   };
 }
 
-pub refused_from : {F : Type 0} (leads leads' : Wish → Option Aim → Type 0) (node node' : Node → Type 0) (lost lost' : Wish → F → Type 0) (unread unread' : Id → F → Type 0) (met : List Node) (w : Wish) (f : WalkFault F)
-    → Keeps leads leads' node node' lost lost' unread unread' → EdgeRefused leads' node' lost' unread' met w f → EdgeRefused leads node lost unread met w f
-refused_from leads leads' node node' lost lost' unread unread' met w (Ways f) k (inl h) = inl (k.losses w f h)
-refused_from leads leads' node node' lost lost' unread unread' met w (Ways f) k (inr h) = inr (record { id = h.id; aims = k.aims w (Some (to_package h.id)) h.aims; fresh = h.fresh; why = k.faults h.id f h.why })
-refused_from leads leads' node node' lost lost' unread unread' met w (Packages n) k h =
+pub refused_from : {F : Type 0} (leads leads' : Wish → Option Aim → Type 0) (node node' : Node → Type 0) (lost lost' : Wish → F → Type 0) (unread unread' : Id → F → Type 0) (folders : List (List ℕ)) (met : List Node) (e : Turn) (f : WalkFault F)
+    → Keeps leads leads' node node' lost lost' unread unread' → EdgeRefused leads' node' lost' unread' folders met e f → EdgeRefused leads node lost unread folders met e f
+refused_from leads leads' node node' lost lost' unread unread' folders met e (Ways x f) k h = (
+  h.0,
+  elim (h.1) [
+    | inl l ↦ inl (k.losses e.wish f l)
+    | inr n ↦ inr (record { id = n.id; aims = k.aims e.wish (Some (to_package n.id)) n.aims; fresh = n.fresh; why = k.faults n.id f n.why })
+  ],
+)
+refused_from leads leads' node node' lost lost' unread unread' folders met e (Packages n) k h =
     let x = h.1 in
     let y = x.why in
-    (h.0, record { id = x.id; aims = k.aims w (Some (to_package x.id)) x.aims; fresh = x.fresh; why = record { found = y.found; is = k.nodes y.found y.is; here = y.here; full = y.full } })
-refused_from leads leads' node node' lost lost' unread unread' met w Memory k h = tt
+    (h.0, record { id = x.id; aims = k.aims e.wish (Some (to_package x.id)) x.aims; fresh = x.fresh; why = record { found = y.found; is = k.nodes y.found y.is; here = y.here; full = y.full } })
+refused_from leads leads' node node' lost lost' unread unread' folders met e Memory k h = tt
 
 pub keeps_on : {F : Type 0} (l1 l2 l3 : Wish → Option Aim → Type 0) (n1 n2 n3 : Node → Type 0) (o1 o2 o3 : Wish → F → Type 0) (u1 u2 u3 : Id → F → Type 0)
     → Keeps l1 l2 n1 n2 o1 o2 u1 u2 → Keeps l2 l3 n2 n3 o2 o3 u2 u3 → Keeps l1 l3 n1 n3 o1 o3 u1 u3
@@ -130,6 +160,6 @@ walk_on leads node m t _ (ends s e) v = subst (Walk leads node t) (sym e) v
 walk_on leads node m t _ (goes s n u w) v = goes s n u (walk_on leads node m t n w v)
 
 pub on_ways : {F : Type 0} (P Q : F → Type 0) (f : WalkFault F) → ((x : F) → P x → Q x) → OnWays P f → OnWays Q f
-on_ways P Q (Ways x) h k = h x k
+on_ways P Q (Ways e x) h k = h x k
 on_ways P Q (Packages n) h k = tt
 on_ways P Q Memory h k = tt

@@ -1,8 +1,9 @@
 -- What the calls of a walk do.
-use Rattle.std.specs.Prelude.{◌≡◌, ◌⊎◌, ◌≤◌, ◌+◌, List, ◌∷◌, ◌++◌, map, length, Option, Some, None}
+use Rattle.std.specs.Prelude.{◌≡◌, ◌⊎◌, ◌≤◌, ◌+◌, ℕ, List, ◌∷◌, ◌++◌, map, length, Option, Some, None}
 use Rattle.pn_text.specs.declared.limits.TheConstants.{PACKAGE_LIMIT}
 use Rattle.pn_walk.specs.Wants.{Id, Wish, Aim, Node, Place, to_package}
 use Rattle.pn_walk.specs.Walks.{Turn, Link, State, turn_by, turns_of, place_of, LandsAt, Moves, Walk, IsStopped}
+use Rattle.pn_walk.specs.Edges.{IsEdgeOf}
 use Rattle.pn_walk.specs.declared.state.Taken.{Taken}
 use Rattle.pn_walk.specs.declared.state.Queue.{Queue}
 use Rattle.pn_walk.specs.declared.fault.WalkFault.{WalkFault}
@@ -49,40 +50,40 @@ pub record NotMet (leads : Wish → Option Aim → Type 0) (met : List Node) (w 
   pub why : Cause id
 
 -- why an edge isn't taken where these packages were met
-abbrev pub EdgeRefused : {F : Type 0} → (Wish → Option Aim → Type 0) → (Node → Type 0) → (Wish → F → Type 0) → (Id → F → Type 0) → List Node → Wish → WalkFault F → Type 0
-EdgeRefused leads node lost unread met w (Ways f) = lost w f ⊎ NotMet leads met w (λ i. unread i f)
-EdgeRefused leads node lost unread met w (Packages n) = (n ≡ PACKAGE_LIMIT + 1) × NotMet leads met w (IsFull node met)
-EdgeRefused leads node lost unread met w Memory = Unit {0}
+abbrev pub EdgeRefused : {F : Type 0} → (Wish → Option Aim → Type 0) → (Node → Type 0) → (Wish → F → Type 0) → (Id → F → Type 0) → List (List ℕ) → List Node → Turn → WalkFault F → Type 0
+EdgeRefused leads node lost unread folders met turn (Ways e f) = IsEdgeOf folders met turn e × (lost turn.wish f ⊎ NotMet leads met turn.wish (λ i. unread i f))
+EdgeRefused leads node lost unread folders met turn (Packages n) = (n ≡ PACKAGE_LIMIT + 1) × NotMet leads met turn.wish (IsFull node met)
+EdgeRefused leads node lost unread folders met turn Memory = Unit {0}
 
 -- too many packages, or there was no memory
 abbrev pub IsTooMany : {F : Type 0} → List Node → WalkFault F → Type 0
-IsTooMany met (Ways f) = ⊥
+IsTooMany met (Ways e f) = ⊥
 IsTooMany met (Packages n) = (n ≡ PACKAGE_LIMIT + 1) × (PACKAGE_LIMIT ≤ length met)
 IsTooMany met Memory = Unit {0}
 
 -- One of these edges is refused; those before it were taken.
-pub record StopsIn {F : Type 0} (leads : Wish → Option Aim → Type 0) (node : Node → Type 0) (lost : Wish → F → Type 0) (unread : Id → F → Type 0) (edges : List Turn) (old : Queue) (fault : WalkFault F) : Type 0 where
+pub record StopsIn {F : Type 0} (leads : Wish → Option Aim → Type 0) (node : Node → Type 0) (lost : Wish → F → Type 0) (unread : Id → F → Type 0) (folders : List (List ℕ)) (edges : List Turn) (old : Queue) (fault : WalkFault F) : Type 0 where
   pub front : List Turn
   pub edge : Turn
   pub rest : List Turn
   pub there : Queue
   pub is : edges ≡ front ++ edge ∷ rest
   pub took : TookAll leads node front old there
-  pub why : EdgeRefused leads node lost unread there.nodes.items edge.wish fault
+  pub why : EdgeRefused leads node lost unread folders there.nodes.items edge fault
 
 -- The walk stops at an edge that is refused.
-pub record StopsSomewhere {F : Type 0} (leads : Wish → Option Aim → Type 0) (node : Node → Type 0) (lost : Wish → F → Type 0) (unread : Id → F → Type 0) (s : State) (fault : WalkFault F) : Type 0 where
+pub record StopsSomewhere {F : Type 0} (leads : Wish → Option Aim → Type 0) (node : Node → Type 0) (lost : Wish → F → Type 0) (unread : Id → F → Type 0) (folders : List (List ℕ)) (s : State) (fault : WalkFault F) : Type 0 where
   pub end : State
-  pub stopped : IsStopped leads node (λ met e f. EdgeRefused leads node lost unread met e.wish f) s end fault
+  pub stopped : IsStopped leads node (EdgeRefused leads node lost unread folders) s end fault
 
 -- the same, or there was no memory
-abbrev pub Stops : {F : Type 0} → (Wish → Option Aim → Type 0) → (Node → Type 0) → (Wish → F → Type 0) → (Id → F → Type 0) → State → WalkFault F → Type 0
-Stops leads node lost unread s (Ways f) = StopsSomewhere leads node lost unread s (Ways f)
-Stops leads node lost unread s (Packages n) = StopsSomewhere leads node lost unread s (Packages n)
-Stops leads node lost unread s Memory = Unit {0}
+abbrev pub Stops : {F : Type 0} → (Wish → Option Aim → Type 0) → (Node → Type 0) → (Wish → F → Type 0) → (Id → F → Type 0) → List (List ℕ) → State → WalkFault F → Type 0
+Stops leads node lost unread folders s (Ways e f) = StopsSomewhere leads node lost unread folders s (Ways e f)
+Stops leads node lost unread folders s (Packages n) = StopsSomewhere leads node lost unread folders s (Packages n)
+Stops leads node lost unread folders s Memory = Unit {0}
 
 -- what a refusal of the ways says
 abbrev pub OnWays : {F : Type 0} → (F → Type 0) → WalkFault F → Type 0
-OnWays broke (Ways f) = broke f
+OnWays broke (Ways e f) = broke f
 OnWays broke (Packages n) = Unit {0}
 OnWays broke Memory = Unit {0}

@@ -4,5 +4,6 @@ pub mod Graphs
 pub mod WalkLaws
 pub mod Keeps
 pub mod Starts
+pub mod Edges
 pub mod Calls
 pub mod Places

@@ -2,7 +2,7 @@
 use Rattle.std.specs.Prelude.{ℕ, Bool, List}
 use Rattle.std.specs.Str.{bytes_eq}
 pub use Rattle.pn_walk.specs.declared.wish.Wish.{Wish}
-pub use Rattle.pn_walk.specs.declared.node.Peer.{Peer}
+pub use Rattle.pn_manifest.specs.declared.peers.Peer.{Peer}
 pub use Rattle.pn_walk.specs.declared.node.Node.{Node}
 pub use Rattle.pn_walk.specs.declared.wish.Aim.{Aim}
 pub use Rattle.pn_walk.specs.declared.wish.Aim.TheVariants.{Project as to_project, Package as to_package}

@@ -2,17 +2,10 @@
 ghost use Rattle.std.specs.Prelude.{◌≡◌, IfOk};
 
 use crate::wish::Wish;
-use pn_text::{Memory, PkgId, PkgName, Text};
+use pn_manifest::Peers;
+use pn_text::{Memory, PkgId, Text};
 use std::alloc::Global;
 use std::marker::Model;
-
-/// A peer: its name, its range's text, and whether it is optional.
-#[derive(Drop)]
-pub struct Peer {
-    pub name: PkgName,
-    pub text: Text,
-    pub optional: bool,
-}
 
 /// Wishes in byte order of aliases.
 #[derive(Drop)]
@@ -30,6 +23,12 @@ impl Model for Wishes {
 }
 
 impl Wishes {
+    pub fn of(items: Vec<Wish>) -> Wishes
+        ensures { result ≡ items.items }
+    {
+        Wishes { items }
+    }
+
     pub fn as_slice(&self) -> &[Wish]
         ensures { result.now ≡ self.now }
     {
@@ -50,19 +49,11 @@ impl Wishes {
     }
 }
 
-/// Peers in byte order of names.
+/// A project's folder, or a package's id as a text, and what it asks for.
 #[derive(Drop)]
-pub struct Peers {
-    items: Vec<Peer>,
-}
-
-impl Model for Peers {
-    ghost use Rattle.std.specs.Prelude.{List};
-    ghost use Rattle.pn_walk.specs.declared.node.Peer.{Peer};
-
-    ghost Value = { List Peer };
-
-    ghost view = { λ a. a.items.items };
+pub struct Asks {
+    pub from: Text,
+    pub wishes: Wishes,
 }
 
 /// A package by its seen manifest.

@@ -1,19 +1,21 @@
 // The walk along edges.
-ghost use Rattle.std.specs.Prelude.{◌≡◌, ◌<◌, ◌≤◌, ◌∷◌, ◌++◌, [], ◌^◌, OnOk, IfOk, IfErr, Some, None, length, map, get_or, vec_len};
+ghost use Rattle.std.specs.Prelude.{◌≡◌, ◌<◌, ◌≤◌, ◌∷◌, ◌++◌, [], ◌^◌, OnOk, IfOk, IfErr, ℕ, List, Some, None, length, map, get_or, vec_len};
 ghost use Rattle.pn_text.specs.declared.limits.TheConstants.{PACKAGE_LIMIT};
 ghost use Rattle.pn_walk.specs.Keeps.{Keeps};
 ghost use Rattle.pn_walk.specs.Places.{IsTied, KeepsPlace};
-ghost use Rattle.pn_walk.specs.Wants.{Node as TheNode, to_package, at_package};
+ghost use Rattle.pn_walk.specs.Wants.{Node as TheNode, Place as ThePlace, to_package, at_package};
 ghost use Rattle.pn_walk.specs.Walks.{turn_by, State, Walk, IsWalked, place_of, turns_of};
+ghost use Rattle.pn_walk.specs.Edges.{AskedFrom};
 ghost use Rattle.pn_walk.specs.declared.fault.WalkFault.TheVariants.{Memory as no_memory};
 ghost use Rattle.pn_walk.specs.Calls.{at, link_of, OnWays, Stops, Met, Took, TookAll, StopsIn, IsTooMany, EdgeRefused};
 
 use crate::fault::WalkFault;
-use crate::node::{Node, Wishes};
+use crate::node::{Asks, Node};
+use crate::refused::refused;
 use crate::state::{Queue, Taken};
 use crate::ways::Ways;
 use crate::wish::{Aim, Place, Wish};
-use pn_text::{Memory, PACKAGE_LIMIT, PkgId};
+use pn_text::{Memory, PACKAGE_LIMIT, PkgId, Text};
 use std::alloc::Global;
 use std::collections::BTreeMap;
 
@@ -24,12 +26,13 @@ impl Queue {
         alloc: Global,
         ways: &mut W,
         who: Place,
+        from: &str,
         wish: &Wish,
     ) -> Result<(), WalkFault<W::Fault>>
         requires good { W.good ways.old }
         requires tied { IsTied self.old }
         ensures took { OnOk result (Took (W.leads ways.old) (W.node ways.old) (turn_by who wish.now) self.old self.new) }
-        ensures refused { IfErr result (EdgeRefused (W.leads ways.old) (W.node ways.old) (W.lost ways.old) (W.unread ways.old) self.old.nodes.items wish.now) }
+        ensures refused { IfErr result (λ f. AskedFrom from.now self.old.nodes.items who (λ folders. EdgeRefused (W.leads ways.old) (W.node ways.old) (W.lost ways.old) (W.unread ways.old) folders self.old.nodes.items (turn_by who wish.now) f)) }
         ensures kept { Keeps (W.leads ways.old) (W.leads ways.new) (W.node ways.old) (W.node ways.new) (W.lost ways.old) (W.lost ways.new) (W.unread ways.old) (W.unread ways.new) }
         ensures good { W.good ways.new }
         ensures tied { OnOk result (IsTied self.new) }
@@ -44,8 +47,8 @@ impl Queue {
                 wish,
                 Some(Place::Project(project)),
             ),
-            Ok(Some(Aim::Package(id))) => self.take_package(alloc, ways, who, wish, &id),
-            Err(fault) => Err(WalkFault::Ways(fault)),
+            Ok(Some(Aim::Package(id))) => self.take_package(alloc, ways, who, from, wish, &id),
+            Err(fault) => Err(refused(alloc, from, wish, fault)),
         }
     }
 
@@ -55,12 +58,13 @@ impl Queue {
         alloc: Global,
         ways: &mut W,
         who: Place,
+        from: &str,
         wishes: &[Wish],
     ) -> Result<(), WalkFault<W::Fault>>
         requires good { W.good ways.old }
         requires tied { IsTied self.old }
         ensures took { OnOk result (TookAll (W.leads ways.old) (W.node ways.old) (map (turn_by who) wishes.now) self.old self.new) }
-        ensures refused { IfErr result (StopsIn (W.leads ways.old) (W.node ways.old) (W.lost ways.old) (W.unread ways.old) (map (turn_by who) wishes.now) self.old) }
+        ensures refused { IfErr result (λ f. AskedFrom from.now self.old.nodes.items who (λ folders. StopsIn (W.leads ways.old) (W.node ways.old) (W.lost ways.old) (W.unread ways.old) folders (map (turn_by who) wishes.now) self.old f)) }
         ensures kept { Keeps (W.leads ways.old) (W.leads ways.new) (W.node ways.old) (W.node ways.new) (W.lost ways.old) (W.lost ways.new) (W.unread ways.old) (W.unread ways.new) }
         ensures good { W.good ways.new }
         ensures tied { OnOk result (IsTied self.new) }
@@ -68,7 +72,7 @@ impl Queue {
         ensures broke { IfErr result (OnWays (W.broke ways.old ways.new)) }
     {
         for wish in wishes {
-            if let Err(fault) = self.take(alloc, ways, who, wish) {
+            if let Err(fault) = self.take(alloc, ways, who, from, wish) {
                 return Err(fault);
             }
         }
@@ -84,7 +88,7 @@ impl Queue {
         requires good { W.good ways.old }
         requires tied { IsTied self.old }
         ensures walked { OnOk result ((s : State) → Walk (W.leads ways.old) (W.node ways.old) (at (turns_of 0 self.old.nodes.items) self.old) s → IsWalked (W.leads ways.old) (W.node ways.old) s (at [] self.new)) }
-        ensures refused { IfErr result (λ f. (s : State) → Walk (W.leads ways.old) (W.node ways.old) (at (turns_of 0 self.old.nodes.items) self.old) s → Stops (W.leads ways.old) (W.node ways.old) (W.lost ways.old) (W.unread ways.old) s f) }
+        ensures refused { IfErr result (λ f. (folders : List (List ℕ)) (s : State) → Walk (W.leads ways.old) (W.node ways.old) (at (turns_of 0 self.old.nodes.items) self.old) s → Stops (W.leads ways.old) (W.node ways.old) (W.lost ways.old) (W.unread ways.old) folders s f) }
         ensures kept { Keeps (W.leads ways.old) (W.leads ways.new) (W.node ways.old) (W.node ways.new) (W.lost ways.old) (W.lost ways.new) (W.unread ways.old) (W.unread ways.new) }
         ensures good { W.good ways.new }
         ensures tied { OnOk result (IsTied self.new) }
@@ -95,14 +99,15 @@ impl Queue {
             if k >= self.nodes.len() {
                 return Ok(());
             }
-            let Ok(wishes) = wishes_at(alloc, self.nodes.as_slice(), k) else {
+            let Ok(package) = asks_at(alloc, self.nodes.as_slice(), k) else {
                 return Err(WalkFault::Memory);
             };
             if let Err(fault) = self.take_all(
                 alloc,
                 ways,
                 Place::Package(k as u32),
-                wishes.as_slice(),
+                package.from.as_str(),
+                package.wishes.as_slice(),
             ) {
                 return Err(fault);
             }
@@ -116,6 +121,7 @@ impl Queue {
         alloc: Global,
         ways: &mut W,
         who: Place,
+        from: &str,
         wish: &Wish,
         id: &PkgId,
     ) -> Result<(), WalkFault<W::Fault>>
@@ -123,14 +129,14 @@ impl Queue {
         requires tied { IsTied self.old }
         requires leads { W.leads ways.old wish.now (Some (to_package id.now)) }
         ensures took { OnOk result (Took (W.leads ways.old) (W.node ways.old) (turn_by who wish.now) self.old self.new) }
-        ensures refused { IfErr result (EdgeRefused (W.leads ways.old) (W.node ways.old) (W.lost ways.old) (W.unread ways.old) self.old.nodes.items wish.now) }
+        ensures refused { IfErr result (λ f. AskedFrom from.now self.old.nodes.items who (λ folders. EdgeRefused (W.leads ways.old) (W.node ways.old) (W.lost ways.old) (W.unread ways.old) folders self.old.nodes.items (turn_by who wish.now) f)) }
         ensures kept { Keeps (W.leads ways.old) (W.leads ways.new) (W.node ways.old) (W.node ways.new) (W.lost ways.old) (W.lost ways.new) (W.unread ways.old) (W.unread ways.new) }
         ensures good { W.good ways.new }
         ensures tied { OnOk result (IsTied self.new) }
         ensures follows { W.follows ways.old ways.new }
         ensures broke { IfErr result (OnWays (W.broke ways.old ways.new)) }
     {
-        match self.meet(alloc, ways, wish, id) {
+        match self.meet(alloc, ways, from, wish, id) {
             Ok(place) => self.link(alloc, who, wish, Some(place)),
             Err(fault) => Err(fault),
         }
@@ -141,6 +147,7 @@ impl Queue {
         &mut self,
         alloc: Global,
         ways: &mut W,
+        from: &str,
         wish: &Wish,
         id: &PkgId,
     ) -> Result<Place, WalkFault<W::Fault>>
@@ -148,7 +155,7 @@ impl Queue {
         requires tied { IsTied self.old }
         requires leads { W.leads ways.old wish.now (Some (to_package id.now)) }
         ensures met { IfOk result (λ to. Met (W.node ways.old) id.now to self.old self.new) }
-        ensures refused { IfErr result (EdgeRefused (W.leads ways.old) (W.node ways.old) (W.lost ways.old) (W.unread ways.old) self.old.nodes.items wish.now) }
+        ensures refused { IfErr result (λ f. (who : ThePlace) → AskedFrom from.now self.old.nodes.items who (λ folders. EdgeRefused (W.leads ways.old) (W.node ways.old) (W.lost ways.old) (W.unread ways.old) folders self.old.nodes.items (turn_by who wish.now) f)) }
         ensures kept { Keeps (W.leads ways.old) (W.leads ways.new) (W.node ways.old) (W.node ways.new) (W.lost ways.old) (W.lost ways.new) (W.unread ways.old) (W.unread ways.new) }
         ensures good { W.good ways.new }
         ensures tied { OnOk result (IsTied self.new) }
@@ -160,7 +167,7 @@ impl Queue {
         }
         match ways.read(alloc, id) {
             Ok(node) => self.add(alloc, node),
-            Err(fault) => Err(WalkFault::Ways(fault)),
+            Err(fault) => Err(refused(alloc, from, wish, fault)),
         }
     }
 
@@ -217,11 +224,14 @@ impl Queue {
 }
 
 // What the package at a place asks for.
-fn wishes_at(alloc: Global, nodes: &[Node], at: usize) -> Result<Wishes, Memory>
+fn asks_at(alloc: Global, nodes: &[Node], at: usize) -> Result<Asks, Memory>
     requires { at < length nodes.now }
-    ensures { IfOk result (λ w. (n : TheNode) × (n ≡ get_or nodes.now at n) × (w ≡ n.wishes)) }
+    ensures { IfOk result (λ a. (n : TheNode) × (n ≡ get_or nodes.now at n) × (a.from ≡ n.id) × (a.wishes ≡ n.wishes)) }
 {
-    nodes[at].wishes.copy(alloc)
+    let node = &nodes[at];
+    let from = Text::of(alloc, node.id.as_str())?;
+    let wishes = node.wishes.copy(alloc)?;
+    Ok(Asks { from, wishes })
 }
 
 // Keeps the place of a package under its id's text.

@@ -4,10 +4,10 @@ ghost use Rattle.pn_walk.specs.Keeps.{Keeps};
 ghost use Rattle.pn_walk.specs.Places.{IsTied};
 ghost use Rattle.pn_walk.specs.Walks.{start, IsWalked};
 ghost use Rattle.pn_walk.specs.Calls.{at, Stops, OnWays, TookAll, StopsIn};
-ghost use Rattle.pn_walk.specs.Starts.{turns_from};
+ghost use Rattle.pn_walk.specs.Starts.{turns_from, asked_of, folders_of};
 
 use crate::fault::WalkFault;
-use crate::node::Wishes;
+use crate::node::Asks;
 use crate::state::Queue;
 use crate::ways::Ways;
 use crate::wish::Place;
@@ -15,16 +15,16 @@ use std::alloc::Global;
 use std::collections::BTreeMap;
 
 /// Takes the edges of the projects in order, and then those of the packages as they are met. The first edge that can't be
-/// taken is the refusal.
+/// taken is the refusal, by the asker's text, alias and specifier.
 pub fn walked<W: Ways>(
     alloc: Global,
     ways: &mut W,
-    projects: &[Wishes],
+    projects: &[Asks],
 ) -> Result<Queue, WalkFault<W::Fault>>
     requires good { W.good ways.old }
     requires few { length projects.now < 2 ^ 32 }
-    ensures walked { IfOk result (λ q. IsWalked (W.leads ways.old) (W.node ways.old) (start (turns_from 0 projects.now)) (at [] q)) }
-    ensures refused { IfErr result (Stops (W.leads ways.old) (W.node ways.old) (W.lost ways.old) (W.unread ways.old) (start (turns_from 0 projects.now))) }
+    ensures walked { IfOk result (λ q. IsWalked (W.leads ways.old) (W.node ways.old) (start (turns_from 0 (asked_of projects.now))) (at [] q)) }
+    ensures refused { IfErr result (Stops (W.leads ways.old) (W.node ways.old) (W.lost ways.old) (W.unread ways.old) (folders_of projects.now) (start (turns_from 0 (asked_of projects.now)))) }
     ensures follows { W.follows ways.old ways.new }
     ensures good { W.good ways.new }
     ensures broke { IfErr result (OnWays (W.broke ways.old ways.new)) }
@@ -55,14 +55,14 @@ fn empty(alloc: Global) -> Queue
 fn take_projects<W: Ways>(
     alloc: Global,
     ways: &mut W,
-    projects: &[Wishes],
+    projects: &[Asks],
     queue: &mut Queue,
 ) -> Result<(), WalkFault<W::Fault>>
     requires good { W.good ways.old }
     requires tied { IsTied queue.old }
     requires few { length projects.now < 2 ^ 32 }
-    ensures took { OnOk result (TookAll (W.leads ways.old) (W.node ways.old) (turns_from 0 projects.now) queue.old queue.new) }
-    ensures refused { IfErr result (StopsIn (W.leads ways.old) (W.node ways.old) (W.lost ways.old) (W.unread ways.old) (turns_from 0 projects.now) queue.old) }
+    ensures took { OnOk result (TookAll (W.leads ways.old) (W.node ways.old) (turns_from 0 (asked_of projects.now)) queue.old queue.new) }
+    ensures refused { IfErr result (StopsIn (W.leads ways.old) (W.node ways.old) (W.lost ways.old) (W.unread ways.old) (folders_of projects.now) (turns_from 0 (asked_of projects.now)) queue.old) }
     ensures good { W.good ways.new }
     ensures tied { OnOk result (IsTied queue.new) }
     ensures kept { Keeps (W.leads ways.old) (W.leads ways.new) (W.node ways.old) (W.node ways.new) (W.lost ways.old) (W.lost ways.new) (W.unread ways.old) (W.unread ways.new) }
@@ -70,11 +70,13 @@ fn take_projects<W: Ways>(
     ensures broke { IfErr result (OnWays (W.broke ways.old ways.new)) }
 {
     for q in 0..projects.len() {
+        let project = &projects[q];
         if let Err(fault) = queue.take_all(
             alloc,
             ways,
             Place::Project(q as u32),
-            projects[q].as_slice(),
+            project.from.as_str(),
+            project.wishes.as_slice(),
         ) {
             return Err(fault);
         }

@@ -1,5 +1,5 @@
 use Rattle.std.proofs.Common.{map, string_bytes, refl, sym, ◌∙◌, ◌∷◌, subst}
-use Rattle.pn_choice.specs.Edges.{edges_by}
+use Rattle.pn_manifest.specs.Says.{said_of}
 use Rattle.pn_cmd.specs.World.{inputs, world}
 use Rattle.pn_cmd.specs.Points.{then}
 use Rattle.pn_cmd.specs.Names.{package_name}
@@ -48,7 +48,7 @@ returns-clause-refused g c out =
     let registry = r c.args.registry.now in
     let place = c.args.place.now in
     let i = inputs (map string_bytes c.args.words.now) place in
-    let own = edges_by c.in-Ok.manifest in
+    let own = said_of c.in-Ok.manifest in
     let old = world (p c.args.project.now) registry out in
     let mid = world (p c.nothing_stands.new.project) registry out in
     let found = world (p c.read_manifest.new.project) registry out in
@@ -69,7 +69,7 @@ returns-clause-ready g c =
     let p = g.P.ReadFs.seen in
     let registry = g.R.ReadFs.seen c.args.registry.now in
     let place = c.args.place.now in
-    ready_from c.check_goal.result (inputs (map string_bytes c.args.words.now) place) (p c.args.project.now) (p c.read_manifest.new.project) registry (edges_by c.in-Ok.manifest)
+    ready_from c.check_goal.result (inputs (map string_bytes c.args.words.now) place) (p c.args.project.now) (p c.read_manifest.new.project) registry (said_of c.in-Ok.manifest)
     (keeps_on (p c.args.project.now) (p c.nothing_stands.new.project) (p c.read_manifest.new.project) c.in_default.ensures.kept c.in-Ok.ensures.kept)
     (sym c.is_install.ensures ∙ c.if-not-is_install.false) c.in_default.ensures.passed
-    (subst (λ t. Declares t (package_name ∷ place) (edges_by c.in-Ok.manifest)) c.in_default.ensures.kept.tree c.in-Ok.ensures.found) c.check_goal.ensures.ready
+    (subst (λ t. Declares t (package_name ∷ place) (said_of c.in-Ok.manifest)) c.in_default.ensures.kept.tree c.in-Ok.ensures.found) c.check_goal.ensures.ready

@@ -1,5 +1,4 @@
 use Rattle.std.proofs.Common.{refl, subst, List}
-use Rattle.pn_choice.specs.Edges.{edges_by}
 use Rattle.pn_layout.specs.declared.packages.Package.{Package}
 use Rattle.pn_cmd.specs.World.{world}
 use Rattle.pn_cmd.specs.Points.{then, Refuses}
@@ -11,17 +10,17 @@ use Rattle.pn_cmd.proofs.PointLemmas.{first_refuses, second_refuses, kept}
 use Rattle.pn_cmd.proofs.check.check_tree.Goals as goal
 
 pub returns-in-Err-clause-refused : goal.returns-in-Err-clause-refused
-returns-in-Err-clause-refused g c out =
+returns-in-Err-clause-refused g c said out =
     let p = g.P.ReadFs.seen in
     let r = g.R.ReadFs.seen in
-    let k = graph_of c.args.place.now (edges_by c.args.manifest.now) c.args.reached in
+    let k = graph_of c.args.place.now said c.args.plain.now in
     first_refuses modules_at (then listed_at planned_at) k (world (p c.args.project.now) (r c.args.registry.now) out) (world (p c.nothing_stands.new.project) (r c.args.registry.now) out) c.in-Err.status (c.in-Err.ensures.refused (r c.args.registry.now) out)
 
 pub returns-in-Err-packages-clause-refused : goal.returns-in-Err-packages-clause-refused
-returns-in-Err-packages-clause-refused g c out =
+returns-in-Err-packages-clause-refused g c said out =
     let p = g.P.ReadFs.seen in
     let r = g.R.ReadFs.seen in
-    let k = graph_of c.args.place.now (edges_by c.args.manifest.now) c.args.reached in
+    let k = graph_of c.args.place.now said c.args.plain.now in
     let old = world (p c.args.project.now) (r c.args.registry.now) out in
     let mid = world (p c.nothing_stands.new.project) (r c.args.registry.now) out in
     let new = world (p c.nothing_stands.new.project) (r c.packages.new.registry) out in
@@ -32,32 +31,30 @@ returns-in-Err-packages-clause-refused g c out =
     (first_refuses listed_at planned_at k mid new s (c.in-Err-packages.ensures.refused (p c.nothing_stands.new.project) out))
 
 pub returns-in-Ok-plan-clause-ready : goal.returns-in-Ok-plan-clause-ready
-returns-in-Ok-plan-clause-ready g c =
+returns-in-Ok-plan-clause-ready g c said =
     let place = c.args.place.now in
-    let own = edges_by c.args.manifest.now in
-    let met = c.args.reached in
+    let plain = c.args.plain.now in
     let items = c.in-Ok-packages.packages.items in
     let plan = c.in-Ok-plan.plan in
-    let is = subst (λ (l : List Package). IsPlanned (sources_of place own met l) plan) c.as_slice.ensures.value (c.in-Ok-plan.ensures.planned met) in
+    let is = subst (λ (l : List Package). IsPlanned (sources_of place said plain l) plan) c.as_slice.ensures.value (c.in-Ok-plan.ensures.planned said) in
     record {
-      value = graph_of place own met;
+      value = graph_of place said plain;
       first = record { value = tt; found = c.in-Ok.ensures.passed; is = refl };
       rest = record {
-        value = sources_of place own met items;
+        value = sources_of place said plain items;
         first = record { value = items; found = c.in-Ok-packages.ensures.packages; is = refl };
         rest = record { value = plan; found = is; is = refl };
       };
     }
 
 pub returns-clause-refused : goal.returns-clause-refused
-returns-clause-refused g c out =
+returns-clause-refused g c said out =
     let p = g.P.ReadFs.seen in
     let r = g.R.ReadFs.seen in
     let place = c.args.place.now in
-    let own = edges_by c.args.manifest.now in
-    let met = c.args.reached in
+    let plain = c.args.plain.now in
     let items = c.in-Ok-packages.packages.items in
-    let k = graph_of place own met in
+    let k = graph_of place said plain in
     let old = world (p c.args.project.now) (r c.args.registry.now) out in
     let mid = world (p c.nothing_stands.new.project) (r c.args.registry.now) out in
     let new = world (p c.nothing_stands.new.project) (r c.packages.new.registry) out in
@@ -65,7 +62,7 @@ returns-clause-refused g c out =
     second_refuses modules_at (then listed_at planned_at) k k old mid new s
     (kept (p c.args.project.now) (p c.nothing_stands.new.project) (r c.args.registry.now) (r c.args.registry.now) out c.in-Ok.ensures.kept (keeps_same (r c.args.registry.now)))
     (record { value = tt; found = c.in-Ok.ensures.passed; is = refl })
-    (second_refuses listed_at planned_at k (sources_of place own met items) mid new new s
+    (second_refuses listed_at planned_at k (sources_of place said plain items) mid new new s
     (kept (p c.nothing_stands.new.project) (p c.nothing_stands.new.project) (r c.args.registry.now) (r c.packages.new.registry) out (keeps_same (p c.nothing_stands.new.project)) c.in-Ok-packages.ensures.kept)
     (record { value = items; found = c.in-Ok-packages.ensures.packages; is = refl })
-    (subst (λ (l : List Package). Refuses (TooLong (sources_of place own met l)) new new s) c.as_slice.ensures.value (c.in-Err-plan.ensures.refused met new)))
+    (subst (λ (l : List Package). Refuses (TooLong (sources_of place said plain l)) new new s) c.as_slice.ensures.value (c.in-Err-plan.ensures.refused said new)))

@@ -1,5 +1,4 @@
 use Rattle.std.proofs.Common.{◌≡◌, map, take}
-use Rattle.pn_layout.specs.Sound.{called}
 use Rattle.pn_layout.specs.Leaves.{file_leaf}
 use Rattle.pn_layout.specs.Drawn.{Draws}
 use Rattle.pn_layout.proofs.leaves.add_files.Given as goal
@@ -7,5 +6,5 @@ use Rattle.pn_layout.proofs.leaves.add_files.Given as goal
 abbrev pub invariant-loop-file : goal.invariant-loop-file
 invariant-loop-file l = record {
   managed : l.draft.managed ≡ l.modules;
-  drawn : Draws l.fn.draft l.draft (map (file_leaf l.modules (called l.one) l.one.folder) (take l.file-index l.file-items));
+  drawn : Draws l.fn.draft l.draft (map (file_leaf l.modules l.one.id l.one.folder) (take l.file-index l.file-items));
 }

@@ -1,5 +1,5 @@
 use Rattle.std.proofs.Common.{◌∙◌, map, ◌∷◌, []}
-use Rattle.pn_manifest.specs.Listed.{pair_of}
+use Rattle.pn_layout.specs.Listed.{pair_of}
 use Rattle.pn_layout.specs.Leaves.{top_leaf}
 use Rattle.pn_layout.proofs.Drawings.{draws_step, maps_more}
 use Rattle.pn_layout.proofs.leaves.add_tops.Goals as goal

@@ -1,5 +1,5 @@
 use Rattle.std.proofs.Common.{◌≡◌, map, take}
-use Rattle.pn_manifest.specs.Listed.{pair_of}
+use Rattle.pn_layout.specs.Listed.{pair_of}
 use Rattle.pn_layout.specs.Leaves.{top_leaf}
 use Rattle.pn_layout.specs.Drawn.{Draws}
 use Rattle.pn_layout.proofs.leaves.add_tops.Given as goal

@@ -4,4 +4,4 @@ use Rattle.pn_layout.proofs.Drawings.{home_spelled}
 use Rattle.pn_layout.proofs.leaves.home_text.Goals as goal
 
 pub returns : goal.returns
-returns c = if_ok c.way.result (λ t h. home_spelled (string_bytes t) c.args.dir.now c.as_str.result.now c.args.one.now h c.requires (c.as_str.ensures.text ∙ c.name.ensures) c.as_str.ensures.name) c.way.ensures
+returns c = if_ok c.way.result (λ t h. home_spelled (string_bytes t) c.args.dir.now c.as_str.result.now c.args.one.now.id h c.requires.dir (c.as_str.ensures.text ∙ c.name.ensures) c.requires.id) c.way.ensures

@@ -1,5 +1,5 @@
 use Rattle.std.proofs.Common.{map}
-use Rattle.pn_manifest.specs.Listed.{pair_of}
+use Rattle.pn_layout.specs.Listed.{pair_of}
 use Rattle.pn_layout.proofs.Outcomes.{all_drawn}
 use Rattle.pn_layout.proofs.plan.draft_of.Goals as goal
 

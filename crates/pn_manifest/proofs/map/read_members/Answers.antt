@@ -1,6 +1,6 @@
 use Rattle.std.proofs.Common.{◌≡◌, ◌++◌, subst, sym, ◌∙◌, ap, append-nil, map}
 use Rattle.serde_json.specs.View.{members_view}
-use Rattle.pn_manifest.specs.Fields.{pairs}
+use Rattle.pn_manifest.specs.TextMaps.{pairs}
 use Rattle.pn_manifest.specs.Pairs.{IsRising}
 use Rattle.pn_manifest.specs.Listed.{pair_of}
 use Rattle.pn_manifest.proofs.Rising.{rising_pairs}

@@ -14,5 +14,5 @@ invariant-loop-name g l = record {
   short : All (IsShortFile l.at) l.found.items;
   gave : ForSome (g.R.ReadFs.seen l.fn.registry).tree (λ t. GaveAtMost (g.R.ReadFs.seen l.fn.registry) 0 0 (g.R.ReadFs.seen l.registry));
   grows : vec_len l.todo ≤ vec_len l.fn.todo + l.name-index;
-  leads : ForSome (g.R.ReadFs.seen l.fn.registry).tree (λ t. Leads t l.parent (drop l.name-index l.names) l.names l.fn.todo.items l.todo.items (map (placed l.at) l.fn.found.items) (map (placed l.at) l.found.items));
+  leads : ForSome (g.R.ReadFs.seen l.fn.registry).tree (λ t. Leads t l.at l.parent (drop l.name-index l.names) l.names l.fn.todo.items l.todo.items (map (placed l.at) l.fn.found.items) (map (placed l.at) l.found.items));
 }

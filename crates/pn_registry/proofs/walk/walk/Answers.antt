@@ -52,7 +52,7 @@ folders-preserved g c =
           turned t (g.met.R.ReadFs.well_formed c.args.registry.now t told) c.args.at.now c.in-Some.folder c.folders.todo.items c.pop.new.self.items c.list_folder.new.todo.items
           (map (placed c.args.at.now) c.folders.found.items) (map (placed c.args.at.now) c.list_folder.new.found.items) c.folders.listed c.in-Ok.count _
           (inv.walks t told) c.in-Some.ensures.items
-          (for_some (λ t. Lists t c.in-Some.folder c.in-Ok.count c.pop.new.self.items c.list_folder.new.todo.items (map (placed c.args.at.now) c.folders.found.items) (map (placed c.args.at.now) c.list_folder.new.found.items)) _ c.in-Ok.ensures.lists t (inv.kept.tree ∙ told)) refl;
+          (for_some (λ t. Lists t c.args.at.now c.in-Some.folder c.in-Ok.count c.pop.new.self.items c.list_folder.new.todo.items (map (placed c.args.at.now) c.folders.found.items) (map (placed c.args.at.now) c.list_folder.new.found.items)) _ c.in-Ok.ensures.lists t (inv.kept.tree ∙ told)) refl;
     }
 
 pub returns-in-Err-clause-fault : goal.returns-in-Err-clause-fault

@@ -1,9 +1,11 @@
-use Rattle.std.proofs.Common.{◌≡◌, get_or, List, map, take, drop, subst, sym, ap, ◌∙◌, suc}
-use Rattle.pn_walk.specs.Wants.{Wish, at_project}
+use Rattle.std.proofs.Common.{◌≡◌, ◌<◌, get_or, List, length, map, take, drop, subst, sym, suc, arith}
+use Rattle.std.proofs.lemmas.List.{length-map}
+use Rattle.pn_walk.specs.Wants.{at_project}
 use Rattle.pn_walk.specs.Walks.{Turn, turn_by}
-use Rattle.pn_walk.specs.Starts.{turns_from}
+use Rattle.pn_walk.specs.Starts.{turns_from, asked_of, folders_of, wishes_of}
 use Rattle.pn_walk.specs.Calls.{TookAll}
 use Rattle.pn_walk.proofs.TookLemmas.{on_ways, keeps_on, keeps_same}
+use Rattle.pn_walk.proofs.EdgeLemmas.{asker_project, asked_at}
 use Rattle.pn_walk.proofs.TookAllLemmas.{took_none, took_all_from, stops_in_from}
 use Rattle.pn_walk.proofs.StartLemmas.{split_first, more_first, took_on, stops_on}
 use Rattle.pn_walk.proofs.walk.take_projects.Goals as goal
@@ -26,12 +28,17 @@ returns-in-Err-clause-refused g c =
     let b = c.loop-q.ways in
     let W = g.W.Ways in
     let k = c.loop-q.q in
-    let ps = c.args.projects.now in
+    let projects = c.args.projects.now in
+    let ps = asked_of projects in
+    let p = c.index-projects-q.result in
     let ws = c.as_slice.result.now in
-    let here : ws ≡ get_or ps k ws = c.as_slice.ensures ∙ c.index-projects-q.is ∙ ap (λ (d : List Wish). get_or ps k d) (sym c.as_slice.ensures) in
-    stops_on (W.leads a) (W.node a) (W.lost a) (W.unread a) (turns_from 0 (take k ps)) (map (turn_by (at_project k)) ws) (turns_from (suc k) (drop (suc k) ps)) (turns_from 0 ps) c.args.queue.now c.loop-q.queue c.in-Err.fault
-    (split_first k ps ws c.loop-q-test.true here) c.loop-q.invariant.took
-    (stops_in_from (W.leads a) (W.leads b) (W.node a) (W.node b) (W.lost a) (W.lost b) (W.unread a) (W.unread b) (map (turn_by (at_project k)) ws) c.loop-q.queue c.in-Err.fault c.loop-q.invariant.kept c.in-Err.ensures.refused)
+    let here : ws ≡ get_or ps k ws = asked_at projects k p ws c.loop-q-test.true c.index-projects-q.is c.as_slice.ensures in
+    let within : k < length ps = omega (arith, c.loop-q-test.true, length-map projects wishes_of) in
+    let folders = folders_of projects in
+    stops_on (W.leads a) (W.node a) (W.lost a) (W.unread a) folders (turns_from 0 (take k ps)) (map (turn_by (at_project k)) ws) (turns_from (suc k) (drop (suc k) ps)) (turns_from 0 ps) c.args.queue.now c.loop-q.queue c.in-Err.fault
+    (split_first k ps ws within here) c.loop-q.invariant.took
+    (stops_in_from (W.leads a) (W.leads b) (W.node a) (W.node b) (W.lost a) (W.lost b) (W.unread a) (W.unread b) folders (map (turn_by (at_project k)) ws) c.loop-q.queue c.in-Err.fault c.loop-q.invariant.kept
+    (c.in-Err.ensures.refused folders (asker_project c.loop-q.queue.nodes.items projects k p c.as_str.result.now c.loop-q-test.true c.index-projects-q.is c.as_str.ensures)))
 
 pub returns-in-Err-clause-kept : goal.returns-in-Err-clause-kept
 returns-in-Err-clause-kept g c =
@@ -56,11 +63,14 @@ loop-q-preserved g c =
     let d = c.take_all.new.ways in
     let W = g.W.Ways in
     let k = c.loop-q.q in
-    let ps = c.args.projects.now in
+    let projects = c.args.projects.now in
+    let ps = asked_of projects in
+    let p = c.index-projects-q.result in
     let ws = c.as_slice.result.now in
-    let here : ws ≡ get_or ps k ws = c.as_slice.ensures ∙ c.index-projects-q.is ∙ ap (λ (d : List Wish). get_or ps k d) (sym c.as_slice.ensures) in
+    let here : ws ≡ get_or ps k ws = asked_at projects k p ws c.loop-q-test.true c.index-projects-q.is c.as_slice.ensures in
+    let within : k < length ps = omega (arith, c.loop-q-test.true, length-map projects wishes_of) in
     record {
-      took = subst (λ (l : List Turn). TookAll (W.leads a) (W.node a) l c.args.queue.now c.take_all.new.self) (sym (more_first k ps ws c.loop-q-test.true here))
+      took = subst (λ (l : List Turn). TookAll (W.leads a) (W.node a) l c.args.queue.now c.take_all.new.self) (sym (more_first k ps ws within here))
           (took_on (W.leads a) (W.node a) (turns_from 0 (take k ps)) (map (turn_by (at_project k)) ws) c.args.queue.now c.loop-q.queue c.take_all.new.self c.loop-q.invariant.took
           (took_all_from (W.leads a) (W.leads b) (W.node a) (W.node b) (W.lost a) (W.lost b) (W.unread a) (W.unread b) (map (turn_by (at_project k)) ws) c.loop-q.queue c.take_all.new.self c.loop-q.invariant.kept c.in_default.ensures.took));
       kept = keeps_on (W.leads a) (W.leads b) (W.leads d) (W.node a) (W.node b) (W.node d) (W.lost a) (W.lost b) (W.lost d) (W.unread a) (W.unread b) (W.unread d) c.loop-q.invariant.kept c.take_all.ensures.kept;

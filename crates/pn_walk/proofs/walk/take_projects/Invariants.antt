@@ -1,13 +1,13 @@
 use Rattle.std.proofs.Common.{take}
 use Rattle.pn_walk.specs.Keeps.{Keeps}
-use Rattle.pn_walk.specs.Starts.{turns_from}
+use Rattle.pn_walk.specs.Starts.{turns_from, asked_of}
 use Rattle.pn_walk.specs.Calls.{TookAll}
 use Rattle.pn_walk.specs.Places.{IsTied}
 use Rattle.pn_walk.proofs.walk.take_projects.Given as goal
 
 abbrev pub invariant-loop-q : goal.invariant-loop-q
 invariant-loop-q g l = record {
-  took : TookAll (g.W.Ways.leads l.fn.ways) (g.W.Ways.node l.fn.ways) (turns_from 0 (take l.q l.projects)) l.fn.queue l.queue;
+  took : TookAll (g.W.Ways.leads l.fn.ways) (g.W.Ways.node l.fn.ways) (turns_from 0 (take l.q (asked_of l.projects))) l.fn.queue l.queue;
   kept : Keeps (g.W.Ways.leads l.fn.ways) (g.W.Ways.leads l.ways) (g.W.Ways.node l.fn.ways) (g.W.Ways.node l.ways) (g.W.Ways.lost l.fn.ways) (g.W.Ways.lost l.ways) (g.W.Ways.unread l.fn.ways) (g.W.Ways.unread l.ways);
   good : g.W.Ways.good l.ways;
   tied : IsTied l.queue;

@@ -1,5 +1,6 @@
 use Rattle.pn_walk.specs.Walks.{turn_by}
 use Rattle.pn_walk.proofs.TookLemmas.{on_ways, took_from, refused_from, keeps_on, keeps_same}
+use Rattle.pn_walk.proofs.EdgeLemmas.{asker_more}
 use Rattle.pn_walk.proofs.TookAllLemmas.{took_none, took_next, stops_in}
 use Rattle.pn_walk.proofs.state.Queue.take_all.Goals as goal
 
@@ -21,9 +22,13 @@ returns-in-Err-clause-refused g c =
     let b = c.loop-wish.ways in
     let W = g.W.Ways in
     let w = c.wish-item.result in
-    stops_in (W.leads a) (W.node a) (W.lost a) (W.unread a) c.args.who c.args.wishes.now c.loop-wish.wish-index w c.args.self.now c.loop-wish.self c.in-Err.fault
+    let q = c.args.self.now in
+    let r = c.loop-wish.self in
+    λ folders asks.
+    stops_in (W.leads a) (W.node a) (W.lost a) (W.unread a) folders c.args.who c.args.wishes.now c.loop-wish.wish-index w q r c.in-Err.fault
     c.loop-wish-test.true c.wish-item.is c.loop-wish.invariant.took
-    (refused_from (W.leads a) (W.leads b) (W.node a) (W.node b) (W.lost a) (W.lost b) (W.unread a) (W.unread b) c.loop-wish.self.nodes.items w c.in-Err.fault c.loop-wish.invariant.kept c.in-Err.ensures.refused)
+    (refused_from (W.leads a) (W.leads b) (W.node a) (W.node b) (W.lost a) (W.lost b) (W.unread a) (W.unread b) folders r.nodes.items (turn_by c.args.who w) c.in-Err.fault c.loop-wish.invariant.kept
+    (c.in-Err.ensures.refused folders (asker_more folders q.nodes.items r.nodes.items c.loop-wish.invariant.took.added c.args.who c.args.from.now c.loop-wish.invariant.took.grows asks)))
 
 pub loop-wish-preserved : goal.loop-wish-preserved
 loop-wish-preserved g c =

@@ -3,11 +3,12 @@ use Rattle.pn_walk.specs.Wants.{Wish, Node, at_package}
 use Rattle.pn_walk.specs.Walks.{turn_by}
 use Rattle.pn_walk.specs.Calls.{TookAll, StopsIn}
 use Rattle.pn_walk.proofs.TookLemmas.{on_ways, keeps_on}
+use Rattle.pn_walk.proofs.EdgeLemmas.{asker_package}
 use Rattle.pn_walk.proofs.TookAllLemmas.{walk_at, stops_at, stops, took_all_from, stops_in_from}
 use Rattle.pn_walk.proofs.state.Queue.take_rest.Goals as goal
 
 pub returns-in-Err-clause-refused : goal.returns-in-Err-clause-refused
-returns-in-Err-clause-refused g c = λ s w.
+returns-in-Err-clause-refused g c = λ folders s w.
     let a = c.args.ways.now in
     let b = c.loop-k.ways in
     let W = g.W.Ways in
@@ -15,11 +16,12 @@ returns-in-Err-clause-refused g c = λ s w.
     let n = c.in-Ok.ensures in
     let within : c.loop-k.k < length q.nodes.items = omega (arith, c.if-k-len.false, c.len.ensures) in
     let here : n.0 ≡ get_or q.nodes.items c.loop-k.k n.0 = n.1 ∙ ap (λ (l : List Node). get_or l c.loop-k.k n.0) c.as_slice.ensures.value in
-    let asks = c.as_slice-in-loop-k.ensures ∙ n.2 in
-    let refused = stops_in_from (W.leads a) (W.leads b) (W.node a) (W.node b) (W.lost a) (W.lost b) (W.unread a) (W.unread b) (map (turn_by (at_package c.loop-k.k)) c.as_slice-in-loop-k.result.now) q c.in-Err.fault c.loop-k.invariant.kept c.in-Err.ensures.refused in
-    stops (W.leads a) (W.node a) (W.lost a) (W.unread a) s c.in-Err.fault
-    (stops_at (W.leads a) (W.node a) (W.lost a) (W.unread a) s c.loop-k.k n.0 q c.in-Err.fault within here (c.loop-k.invariant.walks s w)
-    (subst (λ (ws : List Wish). StopsIn (W.leads a) (W.node a) (W.lost a) (W.unread a) (map (turn_by (at_package c.loop-k.k)) ws) q c.in-Err.fault) asks refused))
+    let asks = c.as_slice-in-loop-k.ensures ∙ n.3 in
+    let from : c.as_str.result.now ≡ n.0.id = c.as_str.ensures ∙ n.2 in
+    let refused = stops_in_from (W.leads a) (W.leads b) (W.node a) (W.node b) (W.lost a) (W.lost b) (W.unread a) (W.unread b) folders (map (turn_by (at_package c.loop-k.k)) c.as_slice-in-loop-k.result.now) q c.in-Err.fault c.loop-k.invariant.kept (c.in-Err.ensures.refused folders (asker_package folders q.nodes.items c.loop-k.k n.0 c.as_str.result.now within here from)) in
+    stops (W.leads a) (W.node a) (W.lost a) (W.unread a) folders s c.in-Err.fault
+    (stops_at (W.leads a) (W.node a) (W.lost a) (W.unread a) folders s c.loop-k.k n.0 q c.in-Err.fault within here (c.loop-k.invariant.walks s w)
+    (subst (λ (ws : List Wish). StopsIn (W.leads a) (W.node a) (W.lost a) (W.unread a) folders (map (turn_by (at_package c.loop-k.k)) ws) q c.in-Err.fault) asks refused))
 
 pub loop-k-preserved : goal.loop-k-preserved
 loop-k-preserved g c =
@@ -32,7 +34,7 @@ loop-k-preserved g c =
     let n = c.in-Ok.ensures in
     let within : c.loop-k.k < length q.nodes.items = omega (arith, c.if-k-len.false, c.len.ensures) in
     let here : n.0 ≡ get_or q.nodes.items c.loop-k.k n.0 = n.1 ∙ ap (λ (l : List Node). get_or l c.loop-k.k n.0) c.as_slice.ensures.value in
-    let asks = c.as_slice-in-loop-k.ensures ∙ n.2 in
+    let asks = c.as_slice-in-loop-k.ensures ∙ n.3 in
     let took = took_all_from (W.leads a) (W.leads b) (W.node a) (W.node b) (W.lost a) (W.lost b) (W.unread a) (W.unread b) (map (turn_by (at_package c.loop-k.k)) c.as_slice-in-loop-k.result.now) q r c.loop-k.invariant.kept c.in_default-take_all.ensures.took in
     let all : TookAll (W.leads a) (W.node a) (map (turn_by (at_package c.loop-k.k)) n.0.wishes) q r = subst (λ (ws : List Wish). TookAll (W.leads a) (W.node a) (map (turn_by (at_package c.loop-k.k)) ws) q r) asks took in
     record {

@@ -1,0 +1,26 @@
+use Rattle.std.proofs.Common.{rules}
+use Rattle.pn_choice.specs.Ways.{Loses}
+use Rattle.pn_choice.proofs.SeekLemmas.{unasked_loses, unlisted_loses, leads_to, lost_version}
+use Rattle.pn_choice.proofs.sources.Sources.seek.Goals as goal
+
+pub returns-in_err-asked-clause-lost : goal.returns-in_err-asked-clause-lost
+returns-in_err-asked-clause-lost g c =
+    let lost : Loses (g.R.ReadFs.seen c.args.self.now.registry.now).tree c.args.self.now.held.now c.args.wish.now c.in_err-asked.field-0.0 =
+    unasked_loses (g.R.ReadFs.seen c.args.self.now.registry.now).tree c.args.self.now.held.now c.args.wish.now c.in_err-asked.field-0.0 c.requires.asks c.in_err-asked.ensures.refused in
+    search rules
+
+pub returns-in_err-id-clause-lost : goal.returns-in_err-id-clause-lost
+returns-in_err-id-clause-lost g c =
+    let lost : Loses (g.R.ReadFs.seen c.args.self.now.registry.now).tree c.args.self.now.held.now c.args.wish.now c.in_err-id.field-0.0 =
+    unlisted_loses (g.R.ReadFs.seen c.args.self.now.registry.now).tree c.args.self.now.held.now c.args.wish.now c.in_ok-asked.asked.name c.in_ok-asked.asked.want c.in_err-id.field-0.0 c.requires.asks c.in_ok-asked.ensures.reads c.in_err-id.ensures.unlisted in
+    search rules
+
+pub returns-in-Some-clause-leads : goal.returns-in-Some-clause-leads
+returns-in-Some-clause-leads g c =
+    leads_to (g.R.ReadFs.seen c.args.self.now.registry.now).tree c.args.self.now.held.now c.args.wish.now c.in_ok-asked.asked.name c.in_ok-asked.asked.want c.in_ok-id.field-0 c.in-Some.id c.requires.asks c.in_ok-asked.ensures.reads
+    c.in_ok-id.ensures.version c.in-Some.is
+
+pub returns-in-None-2-clause-lost : goal.returns-in-None-2-clause-lost
+returns-in-None-2-clause-lost g c =
+    lost_version (g.R.ReadFs.seen c.args.self.now.registry.now).tree c.args.self.now.held.now c.args.wish.now c.in_ok-asked.asked.name c.in_ok-asked.asked.want c.in_ok-id.field-0 c.requires.asks c.in_ok-asked.ensures.reads
+    c.in_ok-id.ensures.version c.in-None-2.is c.if-wish.false

@@ -1,0 +1,13 @@
+use Rattle.std.proofs.Common.{◌≡◌, ◌++◌, subst, sym, ◌∙◌, ap, append-nil, map}
+use Rattle.serde_json.specs.View.{members_view}
+use Rattle.pn_manifest.specs.Listed.{entry_pair}
+use Rattle.pn_manifest.specs.Pairs.{IsRising}
+use Rattle.pn_manifest.specs.TextMaps.{pairs}
+use Rattle.pn_manifest.proofs.Rising.{rising_pairs}
+use Rattle.pn_manifest.proofs.text_map.read_members.Goals as goal
+
+pub returns-clause-rising : goal.returns-clause-rising
+returns-clause-rising c =
+    let read : map entry_pair c.loop-key.all.items ≡ pairs (members_view c.args.members.now.entries) =
+    sym (append-nil (map entry_pair c.loop-key.all.items)) ∙ ap (λ left. map entry_pair c.loop-key.all.items ++ pairs (members_view left)) (sym c.in-None.ensures.steps.0) ∙ c.loop-key.invariant.read in
+    subst IsRising (sym read) (rising_pairs c.args.members.now.entries c.iter-key-items.ensures.ordered)

@@ -1,0 +1,5 @@
+mod SearchLemmas
+mod LeftLemmas
+mod SortLemmas
+mod CountedLemmas
+pub mod AskedLemmas

@@ -1,0 +1,10 @@
+pub mod ListLemmas
+pub mod WordsLemmas
+pub mod LinkLemmas
+pub mod DepListLemmas
+pub mod ShapeLemmas
+pub mod GraphOfLemmas
+pub mod ShapeLawLemmas
+pub mod PeerLemmas
+pub mod AskedLemmas
+pub mod FitLemmas
