@@ -5,22 +5,12 @@
 set -eu
 
 top=$(dirname -- "$(dirname -- "$(readlink -f -- "$0")")")
+title=bench
 program=${1:-$("$top/tools/built.sh" pnpm_rs)}
-program=$(readlink -f -- "$program")
 packages=1000
 files=10
 runs=5
-
-if [ ! -x "$program" ]; then
-  echo "bench: there is no $program" >&2
-  exit 1
-fi
-
-in_memory=''
-if [ -d /dev/shm ] && [ -w /dev/shm ]; then in_memory=/dev/shm; fi
-work=$(mktemp -d -p "${in_memory:-${TMPDIR:-/tmp}}" pnpm-rs-bench-XXXXXX)
-trap 'rm -rf "$work"' EXIT
-trap 'exit 1' INT TERM
+. "$top/tools/lib/measure.sh"
 
 # The dependencies of package $1, ten of them: with those of the project each package is reached.
 dependencies() {
@@ -49,22 +39,9 @@ make_all() {
   printf '{"dependencies": {%s}}\n' "$(dependencies -1)" >"$work/empty/package.json"
 }
 
-# The milliseconds that a command takes.
-time_of() {
-  began=$(date +%s%N)
-  "$@" >"$work/printed" || { echo "bench: $* ended with $?" >&2; exit 1; }
-  ended=$(date +%s%N)
-  echo $(((ended - began) / 1000000))
-}
-
-install_in() {
-  cd "$1"
-  PNPM_RS_REGISTRY=$work/registry "$program" install
-}
-
 fresh_install() {
   cp -r "$work/empty" "$work/project"
-  (time_of install_in "$work/project") >>"$work/installs"
+  (time_of install_in "$work/project" "$work/registry") >>"$work/installs"
   rm -rf "$work/last"
   mv "$work/project" "$work/last"
 }
@@ -74,22 +51,15 @@ fresh_copy() {
   rm -rf "$work/copy"
 }
 
-median_of() {
-  sort -n "$1" | sed -n "$(((runs + 1) / 2))p"
-}
-
 make_all
-for turn in $(seq "$runs"); do
+for _ in $(seq "$runs"); do
   fresh_install
   fresh_copy
 done
 
 wanted=$((packages * (files + 1)))
 found=$(find "$work/last/node_modules/.pnpm" -type f | wc -l)
-if [ "$found" -ne "$wanted" ]; then
-  echo "bench: $found files were installed, not $wanted" >&2
-  exit 1
-fi
+[ "$found" -eq "$wanted" ] || fail "$found files were installed, not $wanted"
 
 install=$(median_of "$work/installs")
 copy=$(median_of "$work/copies")

@@ -2,23 +2,11 @@
 // ranges of the manifests that npm carries. Pairs where this project's rules differ by design are counted by rule.
 // Usage: node tools/check-ranges.mjs [PATH OF range_check]
 import { readdirSync, readFileSync, statSync } from 'node:fs';
-import { createRequire } from 'node:module';
 import { join } from 'node:path';
 import { sequence } from './lib/generated.mjs';
-import { npmFolder } from './lib/npm.mjs';
-import { part, skip } from './lib/parts.mjs';
+import { carriedSemver, npmFolder } from './lib/npm.mjs';
+import { part } from './lib/parts.mjs';
 import { ask, built, named } from './lib/program.mjs';
-
-// The semver library that npm carries, and its release.
-const carriedSemver = (npm) => {
-  const carried = createRequire(join(npm, 'package.json'));
-  try {
-    return { semver: carried('semver'), release: carried('semver/package.json').version };
-  } catch (e) {
-    if (e.code === 'MODULE_NOT_FOUND') return skip('npm carries no semver');
-    throw e;
-  }
-};
 
 const below = sequence(20240229);
 const pick = (list) => list[below(list.length)];
@@ -127,9 +115,8 @@ const compare = (semver, pairs, ours) => {
 };
 
 part('ranges', () => {
-  const npm = npmFolder() ?? skip('there is no npm or no folder of its packages');
-  const { semver, release } = carriedSemver(npm);
-  const { ranges, others } = specifiersIn(npm);
+  const { semver, release } = carriedSemver();
+  const { ranges, others } = specifiersIn(npmFolder());
   const pairs = [...generatedPairs(), ...oddPairs(), ...ranges.flatMap(nearPairs)];
   const ours = ask(named ?? built('range_check'), [], pairs.map(([text, at]) => `${text}\t${at}`));
   const { alike, excused, problems } = compare(semver, pairs, ours);

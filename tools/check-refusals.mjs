@@ -4,10 +4,13 @@
 import { spawnSync } from 'node:child_process';
 import { closeSync, openSync, truncateSync } from 'node:fs';
 import { join } from 'node:path';
-import { installedTree, reached } from './lib/packages.mjs';
+import { choicesIn } from './lib/choices.mjs';
+import { installs } from './lib/installs.mjs';
+import { carriedSemver } from './lib/npm.mjs';
+import { installedTree } from './lib/packages.mjs';
 import { part } from './lib/parts.mjs';
 import { program, report, run } from './lib/program.mjs';
-import { cases } from './lib/refusals.mjs';
+import { refusals } from './lib/refusals.mjs';
 import { differences, entriesOf, put, temporary } from './lib/trees.mjs';
 
 const ONE_PART = 201;
@@ -45,9 +48,9 @@ const expected = ({ status, text }, { project, registry }) => {
   const before = entriesOf(project);
   const err = text === '' ? '' : `pnpm-rs: ${text.replace('PROJECT', project)}\n`;
   if (status !== 0 && status !== 23) return { out: '', err, tree: before };
-  const packages = reached(project, registry);
-  const out = status === 0 ? report(packages) : '';
-  return { out, err, tree: new Map([...before, ...installedTree(project, packages)]) };
+  const reached = choicesIn(carriedSemver().semver, registry).reached(project);
+  const out = status === 0 ? report(reached.packages) : '';
+  return { out, err, tree: new Map([...before, ...installedTree(reached)]) };
 };
 
 const told = JSON.stringify;
@@ -75,8 +78,7 @@ const check = (one) => {
   return problems.map((line) => `${one.title}: ${line}`);
 };
 
-part('refusals', () => {
-  const problems = cases.flatMap(check);
-  const installed = cases.filter(({ status }) => status === 0);
-  return { compared: cases.length, what: `${cases.length} projects, ${installed.length} of which are installed`, problems };
-});
+const checkAll = (cases) => ({ compared: cases.length, what: `${cases.length} projects`, problems: cases.flatMap(check) });
+
+part('refusals', () => checkAll(refusals));
+part('installs', () => checkAll(installs));

@@ -1,27 +1,30 @@
-// Installs projects, compares the trees with what the manifests say, and compares what Node's own lookup finds in them
-// with what each package declared: the demo, generated projects, and a project of the packages that npm carries.
+// Installs projects, compares the trees with what the manifests and the registry say, and compares what Node's own lookup
+// finds in them with what each package declared: the demos, generated projects, and a project of the packages that npm
+// carries, by the ranges of npm's own manifests.
 // Usage: node tools/check-with-node.mjs [PROGRAM]
 import { cpSync, readFileSync, symlinkSync } from 'node:fs';
 import { basename, join } from 'node:path';
+import { makeCarried } from './lib/carried.mjs';
+import { choicesIn } from './lib/choices.mjs';
 import { generate } from './lib/generated.mjs';
 import { compareLoads, compareLookup, compareOdd, questionsOf } from './lib/lookups.mjs';
-import { npmFolder } from './lib/npm.mjs';
-import { installedTree, isExact, isName, reached, readManifest } from './lib/packages.mjs';
-import { part, skip } from './lib/parts.mjs';
+import { carriedSemver } from './lib/npm.mjs';
+import { installedTree, namesIn } from './lib/packages.mjs';
+import { part } from './lib/parts.mjs';
 import { built, program, report, run, top } from './lib/program.mjs';
 import { differences, entriesOf, put, temporary } from './lib/trees.mjs';
 
 // Installs the project, and compares the report, the tree, and what else the project's folder has.
 const install = (project, registry, env) => {
-  const packages = reached(project, registry);
-  const wanted = new Map([...entriesOf(project), ...installedTree(project, packages)]);
+  const reached = choicesIn(carriedSemver().semver, registry).reached(project);
+  const wanted = new Map([...entriesOf(project), ...installedTree(reached)]);
   const { status, out, err } = run(program, ['install'], { cwd: project, env });
   const problems = differences(wanted, entriesOf(project));
-  const wantedOut = report(packages);
+  const wantedOut = report(reached.packages);
   if (status !== 0) problems.push(`status ${status}, not 0`);
   if (out !== wantedOut) problems.push(`the report is ${JSON.stringify(out)}, not ${JSON.stringify(wantedOut)}`);
   if (err !== '') problems.push(`standard error has ${JSON.stringify(err)}`);
-  return { packages, problems };
+  return { reached, problems };
 };
 
 // What a part answers: it has compared each package and each lookup.
@@ -31,17 +34,10 @@ const ended = (packages, questions, problems) => ({
   problems,
 });
 
-// The names of a registry's packages.
-const namesIn = (registry) => {
-  const manifests = [...entriesOf(registry).keys()].filter((path) => basename(path) === 'package.json');
-  const names = manifests.map((path) => path.split('/').slice(0, path.startsWith('@') ? 2 : 1).join('/'));
-  return [...new Set(names)];
-};
-
 // Names that no package of the checks has.
 const strange = ['left-pad', '@hello/nothing', '@nobody/here', 'pnpm-rs-registry', 'languages', 'data', 'hello'];
 
-// Runs the demo, and compares what it prints.
+// Runs a demo, and compares what it prints.
 const compareOutput = (project) => {
   const wanted = readFileSync(join(project, 'expected-output.txt'), 'utf8');
   const { status, out, err } = run(process.execPath, ['app.js'], { cwd: project });
@@ -49,23 +45,24 @@ const compareOutput = (project) => {
   return [`app.js ended with ${status} and printed ${JSON.stringify(out + err)}, not ${JSON.stringify(wanted)}`];
 };
 
-const copyDemo = (project) => {
+// A demo, where a package has besides what is no file of it: a link, an empty folder, a path with a line feed.
+const copyDemo = (name, odd, project) => {
   const passed = (path) => basename(path) !== 'node_modules';
-  cpSync(join(top, 'examples', 'hello'), project, { recursive: true, filter: passed });
-  // neither a link nor an empty folder is a file of a package
-  const capital = join(project, 'pnpm-rs-registry', 'capital', '1.0.0');
-  symlinkSync('index.js', join(capital, 'link.js'));
-  put(capital, { empty: null });
+  cpSync(join(top, 'examples', name), project, { recursive: true, filter: passed });
+  const folder = join(project, 'pnpm-rs-registry', odd);
+  symlinkSync('index.js', join(folder, 'link.js'));
+  put(folder, { empty: null, 'two\nlines.js': '' });
 };
 
-const checkDemo = (findCheck) => {
-  const project = join(temporary(), 'hello');
-  copyDemo(project);
+const checkDemo = (name, odd, findCheck) => {
+  const project = join(temporary(), name);
+  copyDemo(name, odd, project);
   const registry = join(project, 'pnpm-rs-registry');
-  const { packages, problems } = install(project, registry, {});
-  const questions = questionsOf(project, packages, [...namesIn(registry), ...strange]);
+  const { reached, problems } = install(project, registry, {});
+  const aliases = reached.direct.map(([alias]) => alias);
+  const questions = questionsOf(project, reached, [...new Set([...namesIn(registry), ...aliases, ...strange])]);
   problems.push(...compareLookup(questions, findCheck), ...compareLoads(questions), ...compareOutput(project));
-  return ended(packages, questions, problems);
+  return ended(reached.packages, questions, problems);
 };
 
 const GENERATED = 20;
@@ -83,71 +80,23 @@ const checkSeed = (seed) => {
   const folder = temporary();
   const [project, registry] = [join(folder, 'project'), join(folder, 'registry')];
   const names = generate(seed, project, registry);
-  const { packages, problems } = install(project, registry, { PNPM_RS_REGISTRY: registry });
-  const questions = questionsOf(project, packages, [...names, ...strange]);
-  return { packages, questions, problems: problems.map((line) => `generated project ${seed}: ${line}`) };
-};
-
-const isEmpty = (value) => (value ?? null) === null || (typeof value === 'object' && Object.keys(value).length === 0);
-
-const needing = ['dependencies', 'optionalDependencies', 'peerDependencies', 'peerDependenciesMeta', 'pnpm'];
-
-const hasModules = (folder) => [...entriesOf(folder).keys()].some((path) => path.split('/').includes('node_modules'));
-
-// Whether a package of a registry needs nothing.
-const isPlain = (folder) => {
-  const manifest = readManifest(folder);
-  const id = `${manifest.name}@${manifest.version}`;
-  return isName(manifest.name) && isExact(manifest.version) && id.length <= 120 &&
-    needing.every((field) => isEmpty(manifest[field])) && !hasModules(folder);
-};
-
-const plainVersions = (folder) => {
-  const versions = [...entriesOf(folder).keys()].filter((path) => !path.includes('/'));
-  return versions.filter((version) => isPlain(join(folder, version)));
-};
-
-// The packages of a registry that need nothing: each name with its versions.
-const plainPackages = (registry) => {
-  const all = namesIn(registry).map((name) => [name, plainVersions(join(registry, name))]);
-  return all.filter(([, versions]) => versions.length > 0);
-};
-
-// A manifest that depends on the i-th version of each name that has so many.
-const needsEach = (name, plain, i) => {
-  const some = plain.filter(([, versions]) => i < versions.length);
-  return { name, version: '1.0.0', dependencies: Object.fromEntries(some.map(([other, versions]) => [other, versions[i]])) };
-};
-
-const asFile = (manifest) => ({ 'package.json': `${JSON.stringify(manifest, null, 2)}\n` });
-
-// A project that reaches the packages: each name's first version itself, the others by packages made for that.
-const makeProject = (project, registry, plain) => {
-  const manifest = needsEach('carried', plain, 0);
-  const most = Math.max(...plain.map(([, versions]) => versions.length));
-  for (let i = 1; i < most; i += 1) {
-    const name = `pnpm-rs-others-${i}`;
-    put(join(registry, name, '1.0.0'), asFile(needsEach(name, plain, i)));
-    manifest.dependencies[name] = '1.0.0';
-  }
-  put(project, { ...asFile(manifest), 'src/app.js': '' });
+  const { reached, problems } = install(project, registry, { PNPM_RS_REGISTRY: registry });
+  const questions = questionsOf(project, reached, [...names, ...strange]);
+  return { packages: reached.packages, questions, problems: problems.map((line) => `generated project ${seed}: ${line}`) };
 };
 
 const checkCarried = (findCheck) => {
-  const npm = npmFolder() ?? skip('there is no npm or no folder of its packages');
   const folder = temporary();
   const [project, registry] = [join(folder, 'project'), join(folder, 'registry')];
-  const made = run(process.execPath, [join(top, 'tools', 'make-registry.mjs'), join(npm, 'node_modules'), registry]);
-  const plain = plainPackages(registry);
-  makeProject(project, registry, plain);
-  const { packages, problems } = install(project, registry, { PNPM_RS_REGISTRY: registry });
-  if (made.status !== 0) problems.push(`make-registry ended with ${made.status}: ${made.err.trim()}`);
-  const questions = questionsOf(project, packages, [...plain.map(([name]) => name), ...strange]);
-  if (plain.length === 0) problems.push('npm carries no package that needs nothing');
-  return ended(packages, questions, [...problems, ...compareLookup(questions, findCheck)]);
+  const { names, aliases, problems } = makeCarried(project, registry);
+  const { reached, problems: more } = install(project, registry, { PNPM_RS_REGISTRY: registry });
+  const own = questionsOf(project, { ...reached, packages: [] }, aliases);
+  const questions = [...own, ...questionsOf(project, reached, [...names, ...strange])];
+  return ended(reached.packages, questions, [...problems, ...more, ...compareLookup(questions, findCheck)]);
 };
 
-part('the demo', () => checkDemo(built('find_check')));
+part('the demo', () => checkDemo('hello', 'capital/1.0.0', built('find_check')));
+part('the demo of ranges', () => checkDemo('ranges', 'tea/1.1.0', built('find_check')));
 part(`${GENERATED} generated projects`, () => checkGenerated(built('find_check')));
 part("npm's packages", () => checkCarried(built('find_check')));
 part('an odd tree', () => compareOdd(built('find_check')));

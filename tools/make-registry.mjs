@@ -2,9 +2,9 @@
 // Makes a registry of the packages in a node_modules folder: each goes to `TO/<name>/<version>`, without its own
 // node_modules, whose packages are taken too. Only regular files are copied. A version that stands already is left as it
 // is. Ends with 1 where a package was left out.
-import { copyFileSync, existsSync, lstatSync, mkdirSync, readdirSync, renameSync, rmSync } from 'node:fs';
+import { copyFileSync, existsSync, lstatSync, mkdirSync, renameSync, rmSync } from 'node:fs';
 import { dirname, join } from 'node:path';
-import { inModules, isExact, isName, readManifest } from './lib/packages.mjs';
+import { inModules, isExact, isName, namesIn, readManifest } from './lib/packages.mjs';
 import { differences, entriesOf } from './lib/trees.mjs';
 
 const usage = `usage: make-registry.mjs FROM TO
@@ -30,15 +30,6 @@ const leaveOut = (path, why) => {
   counts.left += 1;
   console.error(`make-registry: left out: ${path}: ${why}`);
 };
-
-const shown = (folder) => readdirSync(folder).filter((name) => !name.startsWith('.')).sort();
-
-const inScope = (modules, scope) => shown(join(modules, scope)).map((name) => `${scope}/${name}`);
-
-const isScope = (modules, name) => name.startsWith('@') && isFolder(join(modules, name));
-
-// The names of the packages in a node_modules folder, scoped ones included.
-const namesIn = (modules) => shown(modules).flatMap((name) => (isScope(modules, name) ? inScope(modules, name) : [name]));
 
 // The package's regular files.
 const filesOf = (folder) => {

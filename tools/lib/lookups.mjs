@@ -1,7 +1,7 @@
 // What names find from folders, for the checks: what the manifests say, what Node answers, and what find_check answers.
 import { existsSync } from 'node:fs';
 import { join } from 'node:path';
-import { edgesOf, homeOf, inModules, readManifest } from './packages.mjs';
+import { homeOf, inModules } from './packages.mjs';
 import { ask, built, top } from './program.mjs';
 import { entriesOf, put, temporary } from './trees.mjs';
 
@@ -17,17 +17,16 @@ const foldersAt = (folder) => {
 const questionsAt = (folders, names, means) =>
   folders.flatMap((folder) => names.map((name) => ({ folder, name, means: means.get(name) ?? '-' })));
 
-// The folders that dependencies mean in an installed project; a later one of a name goes before an earlier one.
-const meant = (project, edges) => new Map(edges.map(([name, version]) => [name, join(project, homeOf(name, version))]));
+// The folders that aliases mean in an installed project; a later one of an alias goes before an earlier one.
+const meant = (project, edges) => new Map(edges.map(([alias, to]) => [alias, join(project, homeOf(to))]));
 
 // A package finds itself and its dependencies. Any other name is looked up above it, where the project's own
 // dependencies are.
-const packageQuestions = (project, names, direct, { name, version, edges }) =>
-  questionsAt(foldersAt(join(project, homeOf(name, version))), names, meant(project, [...direct, ...edges, [name, version]]));
+const packageQuestions = (project, names, direct, one) =>
+  questionsAt(foldersAt(join(project, homeOf(one))), names, meant(project, [...direct, ...one.edges, [one.name, one]]));
 
-// Each folder of a project and of each of its packages, with each name and what it has to find.
-export const questionsOf = (project, packages, names) => {
-  const direct = edgesOf(readManifest(project));
+// Each folder of a project and of each package that it reaches, with each name and what it has to find.
+export const questionsOf = (project, { direct, packages }, names) => {
   const own = questionsAt(foldersAt(project), names, meant(project, direct));
   return [...own, ...packages.flatMap((one) => packageQuestions(project, names, direct, one))];
 };

@@ -1,6 +1,6 @@
-// What manifests and a registry say of an install: the packages that are reached, and the `node_modules` that stands
-// then. It is written from docs/FORMATS.md alone.
-import { readFileSync } from 'node:fs';
+// What manifests and a registry say of packages, and the `node_modules` that an install makes of those that a project
+// reaches. It is written from docs/FORMATS.md alone.
+import { lstatSync, readFileSync, readdirSync } from 'node:fs';
 import { dirname, join, relative } from 'node:path';
 import { entriesOf } from './trees.mjs';
 
@@ -16,65 +16,63 @@ export const isName = (name) =>
 
 const number = '(0|[1-9][0-9]*)';
 const identifier = '(0|[1-9][0-9]*|[0-9]*[A-Za-z-][0-9A-Za-z-]*)';
-const versionForm = new RegExp(`^${number}\\.${number}\\.${number}(-${identifier}(\\.${identifier})*)?$`);
+const exactForm = `${number}\\.${number}\\.${number}(-${identifier}(\\.${identifier})*)?`;
+const exact = new RegExp(`^${exactForm}$`);
+const version = new RegExp(`^${exactForm}(\\+[0-9A-Za-z-]+(\\.[0-9A-Za-z-]+)*)?$`);
 
 // Whether a text is a version without build metadata.
-export const isExact = (version) => typeof version === 'string' && versionForm.test(version);
+export const isExact = (text) => typeof text === 'string' && exact.test(text);
 
-// The dependencies but one under the manifest's own name: pairs of a name and a version.
-export const edgesOf = (manifest) => Object.entries(manifest.dependencies ?? {}).filter(([name]) => name !== manifest.name);
+export const isVersion = (text) => typeof text === 'string' && version.test(text);
 
-const packageAt = (registry, name, version) => {
-  const folder = join(registry, name, version);
-  return { name, version, folder, edges: edgesOf(readManifest(folder)) };
+const shown = (folder) => readdirSync(folder).filter((name) => !name.startsWith('.')).sort();
+
+const isFolder = (path) => lstatSync(path).isDirectory();
+
+const named = (folder) => (name) => {
+  const isScope = name.startsWith('@') && isFolder(join(folder, name));
+  return isScope ? shown(join(folder, name)).map((other) => `${name}/${other}`) : [name];
 };
 
-// The packages that a project reaches.
-export const reached = (project, registry) => {
-  const found = new Map();
-  const waiting = edgesOf(readManifest(project));
-  while (waiting.length > 0) {
-    const [name, version] = waiting.pop();
-    const id = `${name}@${version}`;
-    if (found.has(id)) continue;
-    found.set(id, packageAt(registry, name, version));
-    waiting.push(...found.get(id).edges);
-  }
-  return [...found.values()];
-};
+// The names of the packages in a `node_modules` or in a registry, scoped ones included.
+export const namesIn = (folder) => shown(folder).flatMap(named(folder));
 
-const beside = (name, version) => `node_modules/.pnpm/${name.replace('/', '+')}@${version}/node_modules`;
+const beside = ({ name, version }) => `node_modules/.pnpm/${name.replace('/', '+')}@${version}/node_modules`;
 
 // Whether a path from a package's folder leads into its own `node_modules`.
 export const inModules = (path) => path === 'node_modules' || path.startsWith('node_modules/');
 
 // The path of a package's folder from the project's.
-export const homeOf = (name, version) => `${beside(name, version)}/${name}`;
+export const homeOf = (one) => `${beside(one)}/${one.name}`;
 
 const add = (tree, path, entry) => {
   tree.set(path, entry);
   for (let above = dirname(path); above !== '.'; above = dirname(above)) tree.set(above, 'folder');
 };
 
-const addLink = (tree, path, target) => add(tree, path, `link to ${relative(dirname(path), target)}`);
-
-const addFiles = (tree, home, folder) => {
-  for (const [path, entry] of entriesOf(folder)) {
-    if (Buffer.isBuffer(entry)) add(tree, `${home}/${path}`, entry);
+const addLinks = (tree, folder, edges) => {
+  for (const [alias, to] of edges) {
+    const path = `${folder}/${alias}`;
+    add(tree, path, `link to ${relative(dirname(path), homeOf(to))}`);
   }
 };
 
-const addPackage = (tree, { name, version, folder, edges }) => {
-  add(tree, homeOf(name, version), 'folder');
-  addFiles(tree, homeOf(name, version), folder);
-  for (const [other, at] of edges) addLink(tree, `${beside(name, version)}/${other}`, homeOf(other, at));
+// A file whose path has a line feed is none of the package's.
+const addFiles = (tree, home, folder) => {
+  for (const [path, entry] of entriesOf(folder)) {
+    if (Buffer.isBuffer(entry) && !path.includes('\n')) add(tree, `${home}/${path}`, entry);
+  }
 };
 
 // The entries of an installed project's `node_modules`, by their paths from the project's folder.
-export const installedTree = (project, packages) => {
+export const installedTree = ({ direct, packages }) => {
   const tree = new Map();
   add(tree, 'node_modules/.pnpm-rs', Buffer.from('pnpm-rs 1\n'));
-  for (const one of packages) addPackage(tree, one);
-  for (const [name, version] of edgesOf(readManifest(project))) addLink(tree, `node_modules/${name}`, homeOf(name, version));
+  for (const one of packages) {
+    add(tree, homeOf(one), 'folder');
+    addFiles(tree, homeOf(one), one.folder);
+    addLinks(tree, beside(one), one.edges);
+  }
+  addLinks(tree, 'node_modules', direct);
   return tree;
 };
