@@ -12,6 +12,7 @@ import { part } from './lib/parts.mjs';
 import { program, report, run } from './lib/program.mjs';
 import { refusals } from './lib/refusals.mjs';
 import { differences, entriesOf, put, temporary } from './lib/trees.mjs';
+import { workspaces } from './lib/workspaces.mjs';
 
 const ONE_PART = 201;
 
@@ -81,4 +82,5 @@ const check = (one) => {
 const checkAll = (cases) => ({ compared: cases.length, what: `${cases.length} projects`, problems: cases.flatMap(check) });
 
 part('refusals', () => checkAll(refusals));
+part('workspaces', () => checkAll(workspaces));
 part('installs', () => checkAll(installs));

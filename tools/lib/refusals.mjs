@@ -177,7 +177,6 @@ const bundledFiles = [
 const longName = 'b'.repeat(115);
 
 const unbuilt = [
-  stands('file', 'pnpm-workspace.yaml', 'packages: []\n'),
   stands('file', 'pnpm-lock.yaml', ''),
   stands('folder', 'node_modules', null),
   stands('file', 'node_modules', 'a file'),
@@ -234,7 +233,6 @@ const faults = [
 
 // Where there are two causes, the one that is told.
 const orders = [
-  notYet('a workspace before a manifest', 'PROJECT/pnpm-workspace.yaml', { 'package.json': '{', 'pnpm-workspace.yaml': '' }),
   row('a manifest before a lockfile', 3, 'manifest: PROJECT/package.json: not JSON', {
     project: { 'package.json': '{', 'pnpm-lock.yaml': '' },
   }),

@@ -12,7 +12,6 @@ use Rattle.pn_manifest.specs.Said.{Said}
 use Rattle.pn_graph.specs.declared.plain.Plain.{Plain}
 use Rattle.pn_plan.specs.Drawing.{is_within}
 use Rattle.pn_plan.specs.declared.planned.Planned.{Planned}
-use Rattle.pn_choice.specs.Graphs.{IsGraphOf}
 use Rattle.pn_choice.proofs.SettledLemmas.{same as same_graph}
 use Rattle.pn_layout.specs.Links.{Pair}
 use Rattle.pn_layout.specs.declared.packages.Package.{Package}
@@ -21,7 +20,7 @@ use Rattle.pn_layout.specs.Layout.{plan_of}
 use Rattle.pn_layout.specs.Refusals.{LayoutRefused}
 use Rattle.pn_layout.specs.Sound.{contents}
 use Rattle.pn_layout.proofs.RefusedLemmas.{same_plan, cause as layout_cause, passed as layout_passed}
-use Rattle.pn_layout.proofs.Within.{within_from}
+use Rattle.pn_plan.proofs.WithinLemmas.{within_from}
 use Rattle.pn_collect.specs.Outline.{direct_of}
 use Rattle.pn_collect.specs.Packages.{ArePackages}
 use Rattle.pn_collect.proofs.SameLemmas.{same as same_packages}
@@ -30,22 +29,25 @@ use Rattle.pn_cmd.specs.declared.status.Status.{Status}
 use Rattle.pn_cmd.specs.declared.status.Status.TheVariants.{Done, Memory, Limit, ProjectFault, RegistryFault, SinkFault}
 use Rattle.pn_cmd.specs.World.{World, Inputs, Shown, shown, trees_of}
 use Rattle.pn_cmd.specs.Points.{Refuses, IsFree, then}
-use Rattle.pn_cmd.specs.Names.{workspace_name, package_name, lock_name, modules_path}
-use Rattle.pn_cmd.specs.Known.{Project, Graph, Sources, Build, project_of}
+use Rattle.pn_cmd.specs.Names.{package_name, lock_name, modules_path}
+use Rattle.pn_cmd.specs.Known.{Space, Declared, Project, Graph, Sources, Build, space_of, project_of}
+use Rattle.pn_cmd.specs.Spaces.{workspace}
+use Rattle.pn_cmd.specs.Stores.{store}
+use Rattle.pn_workspace.proofs.AnswerLemmas.{answer as space_answer}
 use Rattle.pn_cmd.specs.Words.{words}
 use Rattle.pn_cmd.specs.Standing.{standing}
 use Rattle.pn_cmd.specs.Manifests.{Declares, manifest}
 use Rattle.pn_cmd.specs.Graph.{graph, inputs_of, root}
 use Rattle.pn_cmd.specs.Packages.{listed}
 use Rattle.pn_cmd.specs.Plans.{planned, IsPlanned}
-use Rattle.pn_cmd.specs.Chain.{words_at, workspace_at, manifest_at, lock_at, graph_at, modules_at, listed_at, planned_at, tree, goal, install}
+use Rattle.pn_cmd.specs.Chain.{words_at, workspace_at, manifest_at, store_at, lock_at, graph_at, modules_at, listed_at, planned_at, tree, goal, from_store, from_manifest, install}
 use Rattle.pn_cmd.specs.Reports.{report_of}
 use Rattle.pn_cmd.specs.Endings.{Ends, refused, stopped, unreported, done, Stops, Unreported, Untouched, IsDone, IsInstalled, Installs}
 use Rattle.pn_cmd.specs.Laws.{AreTold, IsOwn, Starts, EndAlike, SettledLaw}
 use Rattle.pn_cmd.proofs.CauseLemmas.{cause_in}
 use Rattle.pn_cmd.proofs.FoundLemmas.{same_manifest}
 use Rattle.pn_cmd.proofs.OrderLemmas.{order_law}
-use Rattle.pn_cmd.proofs.OnceLemmas.{told, words_once, stands_once, manifest_once, graph_once, listed_once}
+use Rattle.pn_cmd.proofs.OnceLemmas.{told, words_once, space_once, store_once, stands_once, manifest_once, graph_once, listed_once}
 use Rattle.pn_cmd.proofs.SettledLemmas.{IsSettled, own_free, then_settled, step_settled, plain_settled}
 
 are_told : (t r : Tree) → AreTold (told t r)
@@ -77,16 +79,25 @@ standing_settled t r =
     plain_settled (told t r) Any standing (λ x y v f g. tt) (λ x y s f c. order_law.standing x (told t r) y s (are_told t r) f c) (λ x s v c d o u. stands_once x (told t r) s v c d o u)
 
 workspace_settled : (t r : Tree) → IsSettled (told t r) Same Same workspace_at
-workspace_settled t r = step_settled (told t r) Same Any Same Same (λ p. workspace_name ∷ p) (λ p u. p) standing (standing_settled t r) (λ p q e. ap (λ p. workspace_name ∷ p) e) (λ p q u v e f g h. e)
+workspace_settled t r =
+    step_settled (told t r) Same Same Same Same (λ p. p) (λ p w. space_of p w) workspace
+    (plain_settled (told t r) Same workspace (λ p v w f g. space_answer.value t p v w f.found g.found) (λ x y s f c. order_law.workspace x (told t r) y s (are_told t r) f c) (λ x s v c d o u. space_once t r x s v c d o u))
+    (λ p q e. e) (λ p q v w e f g h. λ i. space_of (e i) (h i))
 
 one_manifest : (t : Tree) (p : Path) (own other : Said) → Declares (Some t) p own → Declares (Some t) p other → own ≡ other
 one_manifest t p own other f g = f.says ∙ ap said (same_manifest (t p) f.value g.value f.manifest.read g.manifest.read) ∙ sym g.says
 
 manifest_settled : (t r : Tree) → IsSettled (told t r) Same Same manifest_at
 manifest_settled t r =
-    step_settled (told t r) Same Same Same Same (λ p. package_name ∷ p) (λ p own. project_of p own) manifest
+    step_settled (told t r) Same Same Same Same (λ (k : Space). package_name ∷ k.place) (λ k own. record { space = k; said = own }) manifest
     (plain_settled (told t r) Same manifest (λ x y v f g. one_manifest t x y v f g) (λ x y s f c. order_law.manifest x (told t r) y s (are_told t r) f c) (λ x s v c d o u. manifest_once t r x s v c d o u))
-    (λ p q e. ap (λ p. package_name ∷ p) e) (λ p q own other e f g h. λ i. project_of (e i) (h i))
+    (λ k j e. ap (λ (k : Space). package_name ∷ k.place) e) (λ k j own other e f g h. λ i. record { space = e i; said = h i })
+
+store_settled : (t r : Tree) → IsSettled (told t r) Same Same store_at
+store_settled t r =
+    step_settled (told t r) Same Any Same Same (λ (k : Declared). k.space) (λ k u. project_of k.space.place k.said) store
+    (plain_settled (told t r) Any store (λ x y v f g. tt) (λ x y s f c. order_law.store x (told t r) y s (are_told t r) f c) (λ x s v c d o u. store_once x (told t r) s v c d))
+    (λ k j e. ap (λ (k : Declared). k.space) e) (λ k j u v e f g h. ap (λ (k : Declared). project_of k.space.place k.said) e)
 
 lock_settled : (t r : Tree) → IsSettled (told t r) Same Same lock_at
 lock_settled t r = step_settled (told t r) Same Any Same Same (λ (k : Project). lock_name ∷ k.place) (λ k u. k) standing (standing_settled t r) (λ k j e. ap (λ (k : Project). lock_name ∷ k.place) e) (λ k j u v e f g h. e)
@@ -151,9 +162,10 @@ install_settled t r shape =
     let trees = then_settled w Same Same (OneBuild r) modules_at (then listed_at planned_at) (modules_settled t r) last in
     let graph = then_settled w Same Same (OneBuild r) graph_at tree (graph_settled t r) trees in
     let goals = then_settled w Same Same (OneBuild r) lock_at (then graph_at tree) (lock_settled t r) graph in
-    let project = then_settled w Same Same (OneBuild r) manifest_at goal (manifest_settled t r) goals in
-    let root = then_settled w Same Same (OneBuild r) workspace_at (then manifest_at goal) (workspace_settled t r) project in
-    then_settled w Same Same (OneBuild r) words_at (then workspace_at (then manifest_at goal)) (words_settled t r) root
+    let stores = then_settled w Same Same (OneBuild r) store_at goal (store_settled t r) goals in
+    let project = then_settled w Same Same (OneBuild r) manifest_at from_store (manifest_settled t r) stores in
+    let root = then_settled w Same Same (OneBuild r) workspace_at from_manifest (workspace_settled t r) project in
+    then_settled w Same Same (OneBuild r) words_at (then workspace_at from_manifest) (words_settled t r) root
 
 shown_is : (t r : Tree) (old : World) → Starts t r old → shown old ≡ told t r
 shown_is t r old at = λ i. record { trees = record { project = at.project i; registry = at.registry i } }

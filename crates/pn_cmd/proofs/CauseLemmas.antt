@@ -10,21 +10,28 @@ use Rattle.pn_collect.specs.declared.fault.CollectFault.{CollectFault}
 use Rattle.pn_collect.specs.declared.fault.CollectFault.TheVariants.{Modules, TooLarge, Entries as FaultEntries, Fault as CollectFailed, Memory as NoCollectMemory}
 use Rattle.pn_collect.specs.CollectFaults.{IsFirstRefused}
 use Rattle.pn_cmd.specs.declared.status.Which.TheVariants.{File, Text, Path as PathLength}
-use Rattle.pn_cmd.specs.declared.status.FileWhy.TheVariants.{Manifest as of_manifest}
+use Rattle.pn_workspace.specs.Laws.{IsOwn}
+use Rattle.pn_workspace.specs.Workspaces.{NoWorkspace}
+use Rattle.pn_workspace.specs.declared.fault.WorkspaceFault.{WorkspaceFault}
+use Rattle.pn_workspace.specs.declared.fault.WorkspaceFault.TheVariants.{Long, TooLarge as SpaceLarge, Wrong, Fault as SpaceFailed, Memory as NoSpaceMemory}
+use Rattle.pn_workspace.specs.declared.fault.WorkspaceWhy.TheVariants.{BadKey}
+use Rattle.pn_cmd.specs.declared.status.FileWhy.TheVariants.{Manifest as of_manifest, Workspace as of_workspace}
 use Rattle.pn_cmd.specs.declared.status.Status.{Status}
 use Rattle.pn_cmd.specs.declared.status.Status.TheVariants.{Memory, Usage, Manifest as BadManifest, Limit, ProjectFault, RegistryFault, SinkFault, NotYet}
 use Rattle.pn_cmd.specs.World.{World, Inputs, Shown, shown, trees_of}
 use Rattle.pn_cmd.specs.Points.{Refuses, then}
-use Rattle.pn_cmd.specs.Names.{workspace_name, package_name, lock_name, modules_path}
+use Rattle.pn_cmd.specs.Names.{package_name, lock_name, modules_path}
+use Rattle.pn_cmd.specs.Spaces.{space_status}
+use Rattle.pn_cmd.specs.Stores.{NoDefault}
 use Rattle.pn_cmd.specs.Standing.{Stands}
 use Rattle.pn_cmd.specs.Manifests.{NoManifest}
 use Rattle.pn_cmd.specs.Graph.{lack_status, choice_status, inputs_of}
-use Rattle.pn_cmd.specs.Known.{Graph, Project, Sources, Build}
+use Rattle.pn_cmd.specs.Known.{Space, Graph, Project, Sources, Build}
 use Rattle.pn_cmd.specs.Packages.{collect_status}
 use Rattle.pn_cmd.specs.Plans.{TooLong}
-use Rattle.pn_cmd.specs.Chain.{words_at, workspace_at, manifest_at, lock_at, graph_at, modules_at, listed_at, planned_at, tree, goal, install, to_workspace, to_manifest, to_lock, to_graph, to_modules, StandsAt, at_words, at_workspace, at_manifest, at_lock, at_graph, at_modules, at_listed, at_planned}
+use Rattle.pn_cmd.specs.Chain.{words_at, workspace_at, manifest_at, store_at, lock_at, graph_at, modules_at, listed_at, planned_at, tree, goal, from_store, from_manifest, install, to_workspace, to_manifest, to_store, to_lock, to_graph, to_modules, StandsAt, at_words, at_workspace, at_manifest, at_store, at_lock, at_graph, at_modules, at_listed, at_planned}
 use Rattle.pn_cmd.specs.Endings.{refused, stopped, unreported, done, Stops, Unreported}
-use Rattle.pn_cmd.specs.Causes.{CauseOf, IsKept, IsUnread, IsUngraphed, IsUnlisted, IsUnplanned}
+use Rattle.pn_cmd.specs.Causes.{CauseOf, IsUnspaced, IsKept, IsUnread, IsDisplaced, IsUngraphed, IsUnlisted, IsUnplanned}
 use Rattle.pn_cmd.specs.Laws.{CauseLaw}
 use Rattle.pn_cmd.proofs.PointLemmas.{leads_then}
 
@@ -35,7 +42,7 @@ tree_at i w s k f =
     leads_then listed_at planned_at k6 w s (λ c. at_listed (k6, g6, c)) (λ k7 f7 c.
     at_planned (k7, record { value = k6; first = g6; rest = f7 }, c)))
 
-goal_at : (i : Inputs) (w : Shown) (s : Status) (k : Project) → to_manifest.Finds i w.trees k → goal.Cause k w s → StandsAt i w s
+goal_at : (i : Inputs) (w : Shown) (s : Status) (k : Project) → to_store.Finds i w.trees k → goal.Cause k w s → StandsAt i w s
 goal_at i w s k f =
     leads_then lock_at (then graph_at tree) k w s (λ c. at_lock (k, f, c)) (λ k4 f4.
     let g4 : to_lock.Finds i w.trees k4 = record { value = k; first = f; rest = f4 } in
@@ -45,11 +52,13 @@ goal_at i w s k f =
 -- the cause of a refusal is at one of the points, after all that is found before it
 pub refused_at : (i : Inputs) (w : Shown) (s : Status) → install.Cause i w s → StandsAt i w s
 refused_at i w s =
-    leads_then words_at (then workspace_at (then manifest_at goal)) i w s at_words (λ k1 f1.
-    leads_then workspace_at (then manifest_at goal) k1 w s (λ c. at_workspace (k1, f1, c)) (λ k2 f2.
+    leads_then words_at (then workspace_at from_manifest) i w s at_words (λ k1 f1.
+    leads_then workspace_at from_manifest k1 w s (λ c. at_workspace (k1, f1, c)) (λ k2 f2.
     let g2 : to_workspace.Finds i w.trees k2 = record { value = k1; first = f1; rest = f2 } in
-    leads_then manifest_at goal k2 w s (λ c. at_manifest (k2, g2, c)) (λ k3 f3 c.
-    goal_at i w s k3 (record { value = k2; first = g2; rest = f3 }) c)))
+    leads_then manifest_at from_store k2 w s (λ c. at_manifest (k2, g2, c)) (λ k3 f3.
+    let g3 : to_manifest.Finds i w.trees k3 = record { value = k2; first = g2; rest = f3 } in
+    leads_then store_at goal k3 w s (λ c. at_store (k3, g3, c)) (λ k4 f4 c.
+    goal_at i w s k4 (record { value = k3; first = g3; rest = f4 }) c))))
 
 words_cause : (i : Inputs) (old new : World) (s : Status) → words_at.Cause i (shown old) s → CauseOf i old new s
 words_cause i old new Usage h = h
@@ -57,28 +66,46 @@ words_cause i old new s h = absurd h
 
 stands_cause : (i : Inputs) (old new : World) (s : Status) (p : Path) → Stands p (shown old) s → IsKept i (shown old) s → Refuses (install.Cause i) old new s → CauseOf i old new s
 stands_cause i old new ProjectFault p h k r = r.0
-stands_cause i old new (Limit PathLength n) p h k r = inl k
-stands_cause i old new (NotYet text) p h k r = inl k
+stands_cause i old new (Limit PathLength n) p h k r = inr (inr (inr (inl k)))
+stands_cause i old new (NotYet text) p h k r = inr (inr (inr (inl k)))
 stands_cause i old new s p h k r = absurd h
 
 manifest_cause : (i : Inputs) (old new : World) (s : Status) (p : Path) → NoManifest p (shown old) s → IsUnread i (shown old) s → Refuses (install.Cause i) old new s → CauseOf i old new s
 manifest_cause i old new ProjectFault p h k r = r.0
 manifest_cause i old new (Limit PathLength n) p h k r = inr (inl k)
-manifest_cause i old new (Limit Text n) p h k r = inl k
-manifest_cause i old new (BadManifest text (of_manifest why)) p h k r = inl k
+manifest_cause i old new (Limit Text n) p h k r = inr (inl k)
+manifest_cause i old new (BadManifest text (of_manifest why)) p h k r = inr (inl k)
 manifest_cause i old new (NotYet key) p h k r = inr (inl k)
 manifest_cause i old new s p h k r = absurd h
 
+fault_cause : (i : Inputs) (old new : World) (k : Path) → words_at.Finds i (shown old).trees k → (fault : WorkspaceFault) → IsOwn fault → NoWorkspace old.project.tree k fault → CauseOf i old new (space_status fault)
+fault_cause i old new k f (Long n) o h = inl (k, f, (Long n, refl, tt, h))
+fault_cause i old new k f (SpaceLarge n) o h = inl (k, f, (SpaceLarge n, refl, tt, h))
+fault_cause i old new k f (Wrong p why) o h = inl (k, f, (Wrong p why, refl, tt, h))
+fault_cause i old new k f SpaceFailed o h = absurd o
+fault_cause i old new k f NoSpaceMemory o h = absurd o
+
+space_cause : (i : Inputs) (old new : World) (s : Status) → IsUnspaced i (shown old) s → Refuses (install.Cause i) old new s → CauseOf i old new s
+space_cause i old new ProjectFault h r = r.0
+space_cause i old new (NotYet text) h r = inl h
+space_cause i old new s h r = subst (CauseOf i old new) (sym h.2.1) (fault_cause i old new h.0 h.1 h.2.0 h.2.2 h.2.3)
+
+store_cause : (i : Inputs) (old new : World) (s : Status) (k : Space) → NoDefault k (shown old) s → IsDisplaced i (shown old) s → CauseOf i old new s
+store_cause i old new (Limit PathLength n) k h all = inr (inr (inl all))
+store_cause i old new (BadManifest text (of_workspace (BadKey key))) k h all = inr (inr (inl all))
+store_cause i old new (NotYet text) k h all = inr (inr (inl all))
+store_cause i old new s k h all = absurd h
+
 lack_cause : (i : Inputs) (old new : World) (k : Project) → to_lock.Finds i (shown old).trees k → (lack : RegistryLack) → Unplain (inputs_of k.said) old.registry.tree (FaultRegistry lack) → CauseOf i old new (lack_status lack)
-lack_cause i old new k f (LackTags name) h = inr (k, f, (FaultRegistry (LackTags name), refl, h))
+lack_cause i old new k f (LackTags name) h = inr (inr (inr (k, f, (FaultRegistry (LackTags name), refl, h))))
 lack_cause i old new k f LackEntries h = inl (k, f, (FaultRegistry LackEntries, refl, h))
-lack_cause i old new k f (LackManifest id why) h = inr (k, f, (FaultRegistry (LackManifest id why), refl, h))
-lack_cause i old new k f (LackText id n) h = inr (k, f, (FaultRegistry (LackText id n), refl, h))
-lack_cause i old new k f (LackUnbuilt text) h = inr (inr (k, f, (FaultRegistry (LackUnbuilt text), refl, h)))
+lack_cause i old new k f (LackManifest id why) h = inr (inr (inr (k, f, (FaultRegistry (LackManifest id why), refl, h))))
+lack_cause i old new k f (LackText id n) h = inr (inr (k, f, (FaultRegistry (LackText id n), refl, h)))
+lack_cause i old new k f (LackUnbuilt text) h = inr (inr (inr (inr (k, f, (FaultRegistry (LackUnbuilt text), refl, h)))))
 
 choice_cause : (i : Inputs) (old new : World) (k : Project) → to_lock.Finds i (shown old).trees k → (fault : ChoiceFault) → Unplain (inputs_of k.said) old.registry.tree fault → CauseOf i old new (choice_status fault)
 choice_cause i old new k f (FaultUnsupported e) h = (k, f, (FaultUnsupported e, refl, h))
-choice_cause i old new k f (FaultUnbuilt e) h = inr (inr (k, f, (FaultUnbuilt e, refl, h)))
+choice_cause i old new k f (FaultUnbuilt e) h = inr (inr (inr (inr (k, f, (FaultUnbuilt e, refl, h)))))
 choice_cause i old new k f (FaultNoVersion e) h = (k, f, (FaultNoVersion e, refl, h))
 choice_cause i old new k f (FaultRegistry lack) h = lack_cause i old new k f lack h
 choice_cause i old new k f (FaultPackages n) h = (k, f, (FaultPackages n, refl, h))
@@ -101,16 +128,17 @@ listed_cause i old new RegistryFault h r = r.0
 listed_cause i old new s h r = subst (CauseOf i old new) (sym h.2.1) (collect_cause i old new h.0 h.1 h.2.0 h.2.2)
 
 planned_cause : (i : Inputs) (old new : World) (s : Status) (k : Sources) → TooLong k (shown old) s → IsUnplanned i (shown old) s → CauseOf i old new s
-planned_cause i old new (Limit PathLength n) k h all = inr (inr all)
+planned_cause i old new (Limit PathLength n) k h all = inr (inr (inr (inr all)))
 planned_cause i old new s k h all = absurd h
 
 at_point : (i : Inputs) (old new : World) (s : Status) → StandsAt i (shown old) s → Refuses (install.Cause i) old new s → CauseOf i old new s
 at_point i old new s (at_words h) r = words_cause i old new s h
-at_point i old new s (at_workspace h) r = stands_cause i old new s (workspace_name ∷ h.0) h.2 (inl h) r
-at_point i old new s (at_manifest h) r = manifest_cause i old new s (package_name ∷ h.0) h.2 h r
-at_point i old new s (at_lock h) r = stands_cause i old new s (lock_name ∷ h.0.place) h.2 (inr (inl h)) r
+at_point i old new s (at_workspace h) r = space_cause i old new s h r
+at_point i old new s (at_manifest h) r = manifest_cause i old new s (package_name ∷ h.0.place) h.2 h r
+at_point i old new s (at_store h) r = store_cause i old new s h.0.space h.2 h
+at_point i old new s (at_lock h) r = stands_cause i old new s (lock_name ∷ h.0.place) h.2 (inl h) r
 at_point i old new s (at_graph h) r = graph_cause i old new s h r
-at_point i old new s (at_modules h) r = stands_cause i old new s (modules_path h.0.project.place) h.2 (inr (inr h)) r
+at_point i old new s (at_modules h) r = stands_cause i old new s (modules_path h.0.project.place) h.2 (inr h) r
 at_point i old new s (at_listed h) r = listed_cause i old new s h r
 at_point i old new s (at_planned h) r = planned_cause i old new s h.0 h.2 h
 

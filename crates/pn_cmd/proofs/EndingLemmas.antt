@@ -75,6 +75,7 @@ pub stopped_by : (s : Status) (i : Inputs) (old mid new : World) (ready : Ready)
 stopped_by s i old mid new ready k is held out differs stops =
     let p = passed_of i old ready is in
     stopped s (build_of i.place is.0 is.1 ready.packages.items ready.plan) is.2 (refuses_from Stops Stops old mid new s k (λ s h. h) stops) (record {
+      planned = subst (λ t. DiffersOnly (is_planned ready.plan) t new.project.tree) k.project.tree differs;
       project = only_below i.place (direct_of is.1) ready.packages.items ready.plan old.project.tree new.project.tree p.planned.is (subst (λ t. DiffersOnly (is_planned ready.plan) t new.project.tree) k.project.tree differs);
       registry = held.tree ∙ k.registry.tree;
       out = out ∙ k.out;
@@ -91,6 +92,7 @@ written_by i old mid new ready tree after k is held writes =
     let looks = λ (r u : Tree) (told : old.registry.tree ≡ Some r) (tree : IsTree u) (built : IsBuilt u (plan_of r (modules_path i.place) (direct_of plain) packages)).
     all_found r u i.place m plain packages tree (subst (λ (o : Option Tree). IsGraphOf o (inputs_of m) root plain) told p.graph) (subst (λ (o : Option Tree). ArePackages o plain packages) told p.listed) built in
     record {
+      plan = subst (λ t. Writes old.registry.tree ready.plan t new.project.tree) k.project.tree from_registry;
       project = installs old.registry.tree i.place m plain packages ready.plan old.project.tree new.project.tree p.planned.is p.listed.stand tree after looks p.free.absent
           (subst (λ t. Writes old.registry.tree ready.plan t new.project.tree) k.project.tree from_registry);
       registry = held.tree ∙ k.registry.tree;

@@ -12,6 +12,7 @@ pub mod PassedLemmas
 pub mod RegistryTexts
 pub mod SettledLemmas
 pub mod StandingLemmas
+pub mod StoreLemmas
 pub mod TakenLemmas
 pub mod WrittenLemmas
 mod LinkLemmas

@@ -19,12 +19,24 @@ use Rattle.pn_collect.specs.declared.fault.CollectFault.{CollectFault}
 use Rattle.pn_collect.proofs.CauseLemmas.{cause as listed_cause}
 use Rattle.pn_manifest.specs.declared.fault.ManifestWhy.TheVariants.{Missing, NotJson, BadField}
 use Rattle.pn_cmd.specs.declared.status.Which.TheVariants.{Text, Path as PathLength}
-use Rattle.pn_cmd.specs.declared.status.FileWhy.TheVariants.{Manifest as of_manifest}
+use Rattle.pn_text.proofs.Bools.{true_false}
+use Rattle.pn_workspace.specs.Laws.{IsOwn as FaultOwn}
+use Rattle.pn_workspace.specs.Stores.{is_misplaced, store_of}
+use Rattle.pn_workspace.specs.Workspaces.{Fits, IsWorkspace, NoWorkspace}
+use Rattle.pn_workspace.specs.declared.fault.WorkspaceFault.{WorkspaceFault}
+use Rattle.pn_workspace.specs.declared.fault.WorkspaceFault.TheVariants.{Long}
+use Rattle.pn_workspace.specs.declared.fault.WorkspaceWhy.TheVariants.{BadKey}
+use Rattle.pn_workspace.specs.declared.search.Workspace.{Workspace}
+use Rattle.pn_workspace.proofs.AnswerLemmas.{answer as space_answer}
+use Rattle.pn_cmd.specs.declared.status.FileWhy.TheVariants.{Manifest as of_manifest, Workspace as of_workspace}
 use Rattle.pn_cmd.specs.declared.status.Status.{Status}
 use Rattle.pn_cmd.specs.declared.status.Status.TheVariants.{Usage, Manifest as BadManifest, Limit, ProjectFault, RegistryFault, NotYet}
 use Rattle.pn_cmd.specs.World.{Shown}
 use Rattle.pn_cmd.specs.Words.{AreNoCommand}
+use Rattle.pn_cmd.specs.Known.{Space}
+use Rattle.pn_cmd.specs.Spaces.{NoSpace, space_status, unbuilt_space}
 use Rattle.pn_cmd.specs.Standing.{Stands}
+use Rattle.pn_cmd.specs.Stores.{NoDefault, projects_of}
 use Rattle.pn_cmd.specs.Manifests.{NoManifest, IsText, IsManifest, IsWrong, project_later}
 use Rattle.pn_cmd.specs.Graph.{HasNoGraph, choice_status, inputs_of}
 use Rattle.pn_cmd.specs.Packages.{Unlisted, collect_status}
@@ -39,6 +51,50 @@ pub words_once : (words : List (List ℕ)) (w : Shown) (s v : Status) → AreNoC
 words_once words w Usage Usage h k = refl
 words_once words w Usage v h k = absurd k
 words_once words w s v h k = absurd h
+
+-- There is no workspace, or one that isn't taken.
+abbrev SpaceRefused : Tree → Path → Status → Type 0
+SpaceRefused t p s =
+    ((fault : WorkspaceFault) × (s ≡ space_status fault) × FaultOwn fault × NoWorkspace (Some t) p fault)
+    ⊎ ((text : List ℕ) × (s ≡ NotYet text) × Fits p × ((space : Workspace) × IsWorkspace t p space × (unbuilt_space p space ≡ Some text)))
+
+space_as : (t r : Tree) (p : Path) (s : Status) → IsOwn s → NoSpace p (told t r) s → SpaceRefused t p s
+space_as t r p ProjectFault o h = absurd o
+space_as t r p (NotYet text) o h = inr (text, refl, h.0, h.1)
+space_as t r p s o h = inl h
+
+found_apart : {C : Type 0} (t : Tree) (p : Path) (fault : WorkspaceFault) (space : Workspace) → Fits p → FaultOwn fault → NoWorkspace (Some t) p fault → IsWorkspace t p space → C
+found_apart t p fault space fits own refused is =
+    let long = space_answer.either t p space fault own is refused in
+    let past : NoWorkspace (Some t) p (Long long.0) = subst (NoWorkspace (Some t) p) long.1 refused in
+    absurd (omega (arith, fits, past.0, past.1))
+
+pub space_once : (t r : Tree) (p : Path) (s v : Status) → NoSpace p (told t r) s → NoSpace p (told t r) v → IsOwn s → IsOwn v → s ≡ v
+space_once t r p s v h k o u = one (space_as t r p s o h) (space_as t r p v u k)
+  where
+    one : SpaceRefused t p s → SpaceRefused t p v → s ≡ v
+    one (inl a) (inl b) = a.1 ∙ ap space_status (space_answer.refusal t p a.0 b.0 a.2 b.2 a.3 b.3) ∙ sym b.1
+    one (inl a) (inr b) = found_apart t p a.0 b.3.0 b.2 a.2 a.3 b.3.1
+    one (inr a) (inl b) = found_apart t p b.0 a.3.0 a.2 b.2 b.3 a.3.1
+    one (inr a) (inr b) = a.1 ∙ ap NotYet (same_Some a.0 b.0 (sym a.3.2 ∙ ap (unbuilt_space p) (space_answer.value t p a.3.0 b.3.0 a.3.1 b.3.1) ∙ b.3.2)) ∙ sym b.1
+
+pub store_once : (k : Space) (w : Shown) (s v : Status) → NoDefault k w s → NoDefault k w v → s ≡ v
+store_once k w (Limit PathLength n) (Limit PathLength m) h j = ap (Limit PathLength) (h.0 ∙ sym j.0)
+store_once k w (Limit PathLength n) (BadManifest text (of_workspace (BadKey key))) h j = absurd (omega (arith, h.1, j.2.0))
+store_once k w (Limit PathLength n) (NotYet text) h j = absurd (omega (arith, h.1, j.1.1.fits))
+store_once k w (Limit PathLength n) v h j = absurd j
+store_once k w (BadManifest text (of_workspace (BadKey key))) (Limit PathLength m) h j = absurd (omega (arith, j.1, h.2.0))
+store_once k w (BadManifest text (of_workspace (BadKey key))) (BadManifest other (of_workspace (BadKey also))) h j =
+    let path : text ≡ other = h.0 ∙ sym j.0 in
+    let name : key ≡ also = h.1 ∙ sym j.1 in
+    λ i. BadManifest (path i) (of_workspace (BadKey (name i)))
+store_once k w (BadManifest text (of_workspace (BadKey key))) (NotYet other) h j = absurd (true_false (is_misplaced k.workspace.root k.place (projects_of k) (store_of k.workspace)) h.2.1 j.1.1.free)
+store_once k w (BadManifest text (of_workspace (BadKey key))) v h j = absurd j
+store_once k w (NotYet text) (Limit PathLength m) h j = absurd (omega (arith, j.1, h.1.1.fits))
+store_once k w (NotYet text) (BadManifest other (of_workspace (BadKey also))) h j = absurd (true_false (is_misplaced k.workspace.root k.place (projects_of k) (store_of k.workspace)) j.2.1 h.1.1.free)
+store_once k w (NotYet text) (NotYet other) h j = ap NotYet (h.0 ∙ sym j.0)
+store_once k w (NotYet text) v h j = absurd j
+store_once k w s v h j = absurd h
 
 -- the path is too long, or it has a text that is told
 stands_as : (p : Path) (w : Shown) (s : Status) → IsOwn s → Stands p w s → ((PATH_LIMIT < length (path_text p)) × (s ≡ Limit PathLength (length (path_text p)))) ⊎ ((length (path_text p) ≤ PATH_LIMIT) × (s ≡ NotYet (path_text p)))

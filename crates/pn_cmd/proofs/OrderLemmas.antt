@@ -1,5 +1,5 @@
 -- A point that is passed has no cause.
-use Rattle.std.proofs.Common.{◌≡◌, ℕ, List, ap, subst, arith, Option, Some, None, length}
+use Rattle.std.proofs.Common.{◌≡◌, ◌∙◌, ℕ, List, ap, sym, subst, arith, Option, Some, None, length}
 use Rattle.std.specs.Prelude.{IfSome}
 use Rattle.serde_json.specs.Data.{Data}
 use Rattle.pn_text.specs.Path.{Path}
@@ -15,17 +15,29 @@ use Rattle.pn_collect.specs.CollectFaults.{IsFirstRefused}
 use Rattle.pn_collect.proofs.Passed.{passed as listed_passed}
 use Rattle.pn_manifest.specs.declared.fault.ManifestWhy.TheVariants.{Missing, NotJson, BadField}
 use Rattle.pn_cmd.specs.declared.status.Which.TheVariants.{Text, Path as PathLength}
-use Rattle.pn_cmd.specs.declared.status.FileWhy.TheVariants.{Manifest as of_manifest}
+use Rattle.pn_text.proofs.Bools.{true_false}
+use Rattle.pn_workspace.specs.Stores.{is_misplaced, store_of}
+use Rattle.pn_workspace.specs.Workspaces.{NoWorkspace}
+use Rattle.pn_workspace.specs.declared.fault.WorkspaceFault.TheVariants.{Long}
+use Rattle.pn_workspace.specs.declared.fault.WorkspaceWhy.TheVariants.{BadKey}
+use Rattle.pn_workspace.specs.declared.search.Workspace.{Workspace}
+use Rattle.pn_workspace.proofs.AnswerLemmas.{answer as space_answer}
+use Rattle.pn_cmd.specs.declared.status.FileWhy.TheVariants.{Manifest as of_manifest, Workspace as of_workspace}
 use Rattle.pn_cmd.specs.declared.status.Status.{Status}
 use Rattle.pn_cmd.specs.declared.status.Status.TheVariants.{Usage, Manifest as BadManifest, Limit, ProjectFault, RegistryFault, NotYet}
 use Rattle.pn_cmd.specs.Points.{IsFree, Excludes}
 use Rattle.pn_cmd.specs.Words.{words}
+use Rattle.pn_cmd.specs.Spaces.{IsSpace, NoSpace, unbuilt_space, workspace}
 use Rattle.pn_cmd.specs.Standing.{standing}
+use Rattle.pn_cmd.specs.Stores.{projects_of, store}
 use Rattle.pn_cmd.specs.Manifests.{NoManifest, IsProjectManifest, manifest, project_later}
 use Rattle.pn_cmd.specs.Graph.{graph, inputs_of, root}
 use Rattle.pn_cmd.specs.Packages.{listed}
 use Rattle.pn_cmd.specs.Plans.{planned}
 use Rattle.pn_cmd.specs.Laws.{AreTold, OrderLaw}
+
+none_some : {X : Type 0} (x : X) → None ≡ Some x → ⊥
+none_some x h = cc h
 
 words_law : Excludes words AreTold
 words_law x w y Usage told ok h = absurd (cc (ok, h))
@@ -38,6 +50,26 @@ stands_law p w y (NotYet text) told ok h =
     absurd (subst (λ (o : Option Tree). IfSome o (λ t. t p ≡ None → ⊥)) told.project h.2 absent)
 stands_law p w y ProjectFault told ok h = tt
 stands_law p w y s told ok h = absurd h
+
+-- the same where the tree is written out
+space_at : (t : Tree) (registry : Option Tree) (p : Path) (v : Workspace) (s : Status) → IsSpace (Some t) p v → NoSpace p (record { trees = record { project = Some t; registry = registry } }) s → IsFree s
+space_at t registry p v ProjectFault ok h = tt
+space_at t registry p v (NotYet text) ok h = absurd (none_some text (sym ok.built ∙ ap (unbuilt_space p) (space_answer.value t p v h.1.0 ok.found h.1.1) ∙ h.1.2))
+space_at t registry p v s ok h =
+    let long = space_answer.either t p v h.0 h.2 ok.found h.3 in
+    let past : NoWorkspace (Some t) p (Long long.0) = subst (NoWorkspace (Some t) p) long.1 h.3 in
+    absurd (omega (arith, ok.fits, past.0, past.1))
+
+space_law : Excludes workspace AreTold
+space_law p w v s told ok h =
+    space_at told.tree w.trees.registry p v s (subst (λ (o : Option Tree). IsSpace o p v) told.project ok)
+    (subst (λ (o : Option Tree). NoSpace p (record { trees = record { project = o; registry = w.trees.registry } }) s) told.project h)
+
+store_law : Excludes store AreTold
+store_law k w y (Limit PathLength n) told ok h = absurd (omega (arith, ok.fits, h.1))
+store_law k w y (BadManifest text (of_workspace (BadKey key))) told ok h = absurd (true_false (is_misplaced k.workspace.root k.place (projects_of k) (store_of k.workspace)) h.2.1 ok.free)
+store_law k w y (NotYet text) told ok h = absurd (h.1.2 (h.1.1.is ∙ sym ok.is))
+store_law k w y s told ok h = absurd h
 
 pub same_data : (bytes other : List ℕ) (d f : Data) → bytes ≡ other → IsObjectText bytes d → IsObjectText other f → d ≡ f
 same_data bytes other d f e h k = cc (h.read, k.read, e)
@@ -92,4 +124,4 @@ planned_law k w plan (Limit PathLength n) told ok h =
 planned_law k w plan s told ok h = absurd h
 
 pub order_law : OrderLaw
-order_law = record { words = words_law; standing = stands_law; manifest = manifest_law; graph = graph_law; listed = listed_law; planned = planned_law }
+order_law = record { words = words_law; workspace = space_law; standing = stands_law; manifest = manifest_law; store = store_law; graph = graph_law; listed = listed_law; planned = planned_law }

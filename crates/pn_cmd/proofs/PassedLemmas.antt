@@ -1,5 +1,5 @@
 -- What is known where all points are passed.
-use Rattle.std.proofs.Common.{◌≡◌, ◌∷◌, List, Option, Result, Ok, Err, refl, sym, ap, ◌∙◌, subst, true}
+use Rattle.std.proofs.Common.{◌≡◌, ◌∷◌, Option, Result, Ok, Err, refl, sym, ap, ◌∙◌, subst, true}
 use Rattle.std.specs.Prelude.{IfOk}
 use Rattle.pn_text.specs.Path.{Path}
 use Rattle.pn_fs.specs.Tree.{Tree}
@@ -12,14 +12,17 @@ use Rattle.pn_cmd.specs.declared.status.Status.{Status}
 use Rattle.pn_cmd.specs.declared.ready.Ready.{Ready}
 use Rattle.pn_cmd.specs.World.{Trees, Inputs, trees}
 use Rattle.pn_cmd.specs.Words.{is_install}
-use Rattle.pn_cmd.specs.Names.{workspace_name, package_name, lock_name, modules_path}
-use Rattle.pn_cmd.specs.Readies.{IsReady, IsGoalReady, IsTreeReady}
+use Rattle.pn_cmd.specs.Names.{package_name, lock_name, modules_path}
+use Rattle.pn_cmd.specs.Readies.{IsReady, IsSpaceReady, IsDeclaredReady, IsGoalReady, IsTreeReady}
+use Rattle.pn_cmd.specs.Spaces.{IsSpace}
+use Rattle.pn_cmd.specs.Stores.{IsDefault}
+use Rattle.pn_workspace.specs.declared.search.Workspace.{Workspace}
 use Rattle.pn_cmd.specs.Graph.{inputs_of, root}
 use Rattle.pn_cmd.specs.Standing.{NothingStands}
 use Rattle.pn_cmd.specs.Manifests.{Declares}
-use Rattle.pn_cmd.specs.Known.{Project, Graph, Sources, Build, project_of, graph_of, build_of}
+use Rattle.pn_cmd.specs.Known.{Space, Declared, Project, Graph, Sources, Build, space_of, declared_of, project_of, graph_of, build_of}
 use Rattle.pn_cmd.specs.Plans.{IsPlanned}
-use Rattle.pn_cmd.specs.Chain.{install, goal, tree}
+use Rattle.pn_cmd.specs.Chain.{install, from_manifest, from_store, tree}
 
 -- what is found from the packages that are reached on
 pub record HasTree (k : Graph) (t : Trees) (b : Build) : Type 0 where
@@ -54,12 +57,14 @@ has_tree k t b n =
 pub has_passed : (i : Inputs) (t : Trees) (b : Build) → install.Finds i t b → HasPassed i t b
 has_passed i t b f =
     let m = f.rest.rest in
-    let l = m.rest in
+    let d = m.rest in
+    let l = d.rest in
     let g = l.rest in
     let h = has_tree g.value t b g.rest in
-    let place : f.rest.value ≡ i.place = f.rest.first.is ∙ f.first.is in
+    let place : f.rest.value.place ≡ i.place = ap (λ (k : Space). k.place) f.rest.first.is ∙ f.first.is in
     let graph : b.sources.graph ≡ record { project = l.value; plain = g.first.value } = h.from ∙ g.first.is in
-    let project : b.sources.graph.project ≡ project_of i.place m.first.value = ap (λ (k : Graph). k.project) graph ∙ l.first.is ∙ m.first.is ∙ ap (λ p. project_of p m.first.value) place in
+    let project : b.sources.graph.project ≡ project_of i.place m.first.value =
+    ap (λ (k : Graph). k.project) graph ∙ l.first.is ∙ d.first.is ∙ ap (λ (k : Declared). project_of k.space.place k.said) m.first.is ∙ ap (λ p. project_of p m.first.value) place in
     let own : m.first.value ≡ b.sources.graph.project.said = sym (ap (λ (k : Project). k.said) project) in
     record {
       from = project ∙ ap (project_of i.place) own;
@@ -88,24 +93,45 @@ goal_ready (Ok ready) place said plain old mid registry later k l stands found h
   },
 )
 
--- what is ready after the manifest is ready from the start
-pub ready_from : (r : Result Ready Status) (i : Inputs) (old mid registry : Seen) (said : Said) → Keeps old mid → is_install i.words ≡ true → NothingStands old.tree (workspace_name ∷ i.place) → Declares old.tree (package_name ∷ i.place) said
-    → IfOk r (IsGoalReady i.place said (trees mid registry)) → IfOk r (IsReady i (trees old registry))
-ready_from (Err s) i old mid registry said k words stands declares h = tt
-ready_from (Ok ready) i old mid registry said k words stands declares h = (
+-- what is ready after the virtual store's place is ready from there on
+pub declared_ready : (x : Result Ready Status) (place : Path) (w : Workspace) (said : Said) (t : Trees) → IsDefault (space_of place w) → IfOk x (IsGoalReady place said t) → IfOk x (IsDeclaredReady place w said t)
+declared_ready (Err s) place w said t default h = tt
+declared_ready (Ok ready) place w said t default h = (
+  h.0,
+  record {
+    value = project_of place said;
+    first = record { value = tt; found = default; is = refl };
+    rest = h.1;
+  },
+)
+
+-- what is ready after the manifest is ready from it on
+pub space_ready : (x : Result Ready Status) (place : Path) (w : Workspace) (said : Said) (old mid registry : Seen) → Keeps old mid → Declares old.tree (package_name ∷ place) said → IfOk x (IsDeclaredReady place w said (trees mid registry)) → IfOk x (IsSpaceReady place w (trees old registry))
+space_ready (Err s) place w said old mid registry k declares h = tt
+space_ready (Ok ready) place w said old mid registry k declares h = (
   said,
   h.0,
+  record {
+    value = declared_of place w said;
+    first = record { value = said; found = declares; is = refl };
+    rest = subst (λ (t : Option Tree). from_store.Finds (declared_of place w said) (record { project = t; registry = registry.tree }) (build_of place said h.0 ready.packages.items ready.plan)) k.tree h.1;
+  },
+)
+
+-- what is ready after the workspace is ready from the start
+pub ready_from : (r : Result Ready Status) (i : Inputs) (w : Workspace) (old mid registry : Seen) → Keeps old mid → is_install i.words ≡ true → IsSpace old.tree i.place w
+    → IfOk r (IsSpaceReady i.place w (trees mid registry)) → IfOk r (IsReady i (trees old registry))
+ready_from (Err s) i w old mid registry k words space h = tt
+ready_from (Ok ready) i w old mid registry k words space h = (
+  h.0,
+  h.1,
   record {
     value = i.place;
     first = record { value = tt; found = words; is = refl };
     rest = record {
-      value = i.place;
-      first = record { value = tt; found = stands; is = refl };
-      rest = record {
-        value = project_of i.place said;
-        first = record { value = said; found = declares; is = refl };
-        rest = subst (λ (t : Option Tree). goal.Finds (project_of i.place said) (record { project = t; registry = registry.tree }) (build_of i.place said h.0 ready.packages.items ready.plan)) k.tree h.1;
-      };
+      value = space_of i.place w;
+      first = record { value = w; found = space; is = refl };
+      rest = subst (λ (t : Option Tree). from_manifest.Finds (space_of i.place w) (record { project = t; registry = registry.tree }) (build_of i.place h.0 h.1 ready.packages.items ready.plan)) k.tree h.2;
     };
   },
 )

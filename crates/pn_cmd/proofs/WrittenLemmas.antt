@@ -18,7 +18,7 @@ use Rattle.pn_layout.specs.declared.packages.Package.{Package}
 use Rattle.pn_layout.specs.Sound.{FilesStand}
 use Rattle.pn_layout.specs.Layout.{plan_of}
 use Rattle.pn_layout.proofs.Builds.{built}
-use Rattle.pn_layout.proofs.Within.{is_within_at}
+use Rattle.pn_plan.proofs.WithinLemmas.{is_within_at}
 use Rattle.pn_collect.specs.Outline.{HaveFiles, direct_of}
 use Rattle.pn_cmd.specs.Names.{modules_path}
 use Rattle.pn_cmd.specs.Plans.{IsPlan}

@@ -7,20 +7,25 @@ use Rattle.pn_cmd.specs.declared.status.Status.{Status}
 use Rattle.pn_cmd.specs.declared.status.Status.TheVariants.{Done, Memory, Usage, Manifest as BadManifest, NoVersion, Unsupported, Limit, Bundled, ProjectFault, RegistryFault, SinkFault, NotYet}
 use Rattle.pn_cmd.specs.World.{World, Inputs, Shown, shown, trees_of}
 use Rattle.pn_cmd.specs.Known.{Build}
-use Rattle.pn_cmd.specs.Chain.{words_at, workspace_at, manifest_at, lock_at, graph_at, modules_at, listed_at, planned_at, install, to_workspace, to_manifest, to_lock, to_graph, to_modules, to_listed, After}
+use Rattle.pn_cmd.specs.Chain.{words_at, workspace_at, manifest_at, store_at, lock_at, graph_at, modules_at, listed_at, planned_at, install, to_workspace, to_manifest, to_store, to_lock, to_graph, to_modules, to_listed, After}
 use Rattle.pn_cmd.specs.Endings.{IsDone}
 
--- Something stands where nothing is to stand, or that path is too long: `pnpm-workspace.yaml`, `pnpm-lock.yaml` or
--- `node_modules`, each after the points before it.
+-- There is no workspace, or something of it isn't built yet.
+abbrev pub IsUnspaced : Inputs → Shown → Status → Type 0
+IsUnspaced i w s = After words_at i w.trees (λ k. workspace_at.Cause k w s)
+
+-- Something stands where nothing is to stand, or that path is too long: `pnpm-lock.yaml` or `node_modules`, each after the
+-- points before it.
 abbrev pub IsKept : Inputs → Shown → Status → Type 0
-IsKept i w s =
-    After words_at i w.trees (λ k. workspace_at.Cause k w s)
-    ⊎ (After to_manifest i w.trees (λ k. lock_at.Cause k w s)
-    ⊎ After to_graph i w.trees (λ k. modules_at.Cause k w s))
+IsKept i w s = After to_store i w.trees (λ k. lock_at.Cause k w s) ⊎ After to_graph i w.trees (λ k. modules_at.Cause k w s)
 
 -- The project's manifest is refused.
 abbrev pub IsUnread : Inputs → Shown → Status → Type 0
 IsUnread i w s = After to_workspace i w.trees (λ k. manifest_at.Cause k w s)
+
+-- The virtual store has no place, or another one than the default.
+abbrev pub IsDisplaced : Inputs → Shown → Status → Type 0
+IsDisplaced i w s = After to_manifest i w.trees (λ k. store_at.Cause k w s)
 
 -- There is no plain graph.
 abbrev pub IsUngraphed : Inputs → Shown → Status → Type 0
@@ -39,15 +44,24 @@ abbrev pub CauseOf : Inputs → World → World → Status → Type 0
 CauseOf i old new Done = (b : Build) × IsDone i b old new
 CauseOf i old new Memory = Unit {0}
 CauseOf i old new Usage = words_at.Cause i (shown old) Usage
-CauseOf i old new (BadManifest text why) = IsUnread i (shown old) (BadManifest text why) ⊎ IsUngraphed i (shown old) (BadManifest text why)
+CauseOf i old new (BadManifest text why) =
+    IsUnspaced i (shown old) (BadManifest text why)
+    ⊎ (IsUnread i (shown old) (BadManifest text why)
+    ⊎ (IsDisplaced i (shown old) (BadManifest text why)
+    ⊎ IsUngraphed i (shown old) (BadManifest text why)))
 CauseOf i old new (NoVersion e) = IsUngraphed i (shown old) (NoVersion e)
 CauseOf i old new (Unsupported e) = IsUngraphed i (shown old) (Unsupported e)
 CauseOf i old new (Limit Packages n) = IsUngraphed i (shown old) (Limit Packages n)
-CauseOf i old new (Limit Text n) = IsUnread i (shown old) (Limit Text n) ⊎ IsUngraphed i (shown old) (Limit Text n)
+CauseOf i old new (Limit Text n) =
+    IsUnspaced i (shown old) (Limit Text n)
+    ⊎ (IsUnread i (shown old) (Limit Text n)
+    ⊎ IsUngraphed i (shown old) (Limit Text n))
 CauseOf i old new (Limit PathLength n) =
-    IsKept i (shown old) (Limit PathLength n)
+    IsUnspaced i (shown old) (Limit PathLength n)
     ⊎ (IsUnread i (shown old) (Limit PathLength n)
-    ⊎ IsUnplanned i (shown old) (Limit PathLength n))
+    ⊎ (IsDisplaced i (shown old) (Limit PathLength n)
+    ⊎ (IsKept i (shown old) (Limit PathLength n)
+    ⊎ IsUnplanned i (shown old) (Limit PathLength n))))
 CauseOf i old new (Limit File n) = IsUnlisted i (shown old) (Limit File n) ⊎ ((n ≡ FILE_LIMIT + 1) × (old.registry.tree ≡ None))
 CauseOf i old new (Limit Entries n) = IsUngraphed i (shown old) (Limit Entries n) ⊎ IsUnlisted i (shown old) (Limit Entries n)
 CauseOf i old new (Bundled id path) = IsUnlisted i (shown old) (Bundled id path)
@@ -55,6 +69,8 @@ CauseOf i old new ProjectFault = Rose old.project.faults new.project.faults
 CauseOf i old new RegistryFault = Rose old.registry.faults new.registry.faults
 CauseOf i old new SinkFault = Rose old.out.faults new.out.faults × ((b : Build) × install.Finds i (trees_of old) b)
 CauseOf i old new (NotYet text) =
-    IsKept i (shown old) (NotYet text)
+    IsUnspaced i (shown old) (NotYet text)
     ⊎ (IsUnread i (shown old) (NotYet text)
-    ⊎ IsUngraphed i (shown old) (NotYet text))
+    ⊎ (IsDisplaced i (shown old) (NotYet text)
+    ⊎ (IsKept i (shown old) (NotYet text)
+    ⊎ IsUngraphed i (shown old) (NotYet text))))

@@ -4,11 +4,13 @@ use Rattle.pn_text.specs.Path.{Path}
 use Rattle.pn_cmd.specs.declared.status.Status.{Status}
 use Rattle.pn_cmd.specs.World.{Trees, Shown, Inputs}
 use Rattle.pn_cmd.specs.Points.{Point, then, step}
-use Rattle.pn_cmd.specs.Names.{workspace_name, package_name, lock_name, modules_path}
-use Rattle.pn_cmd.specs.Known.{Project, Graph, Sources, Build, project_of}
+use Rattle.pn_cmd.specs.Names.{package_name, lock_name, modules_path}
+use Rattle.pn_cmd.specs.Known.{Space, Declared, Project, Graph, Sources, Build, space_of, project_of}
 use Rattle.pn_cmd.specs.Words.{words}
 use Rattle.pn_cmd.specs.Standing.{standing}
+use Rattle.pn_cmd.specs.Spaces.{workspace}
 use Rattle.pn_cmd.specs.Manifests.{manifest}
+use Rattle.pn_cmd.specs.Stores.{store}
 use Rattle.pn_cmd.specs.Graph.{graph}
 use Rattle.pn_cmd.specs.Packages.{listed}
 use Rattle.pn_cmd.specs.Plans.{planned}
@@ -17,11 +19,14 @@ use Rattle.pn_cmd.specs.Plans.{planned}
 abbrev pub words_at : Point Inputs Path
 words_at = step (λ (i : Inputs). i.words) (λ i u. i.place) words
 
-abbrev pub workspace_at : Point Path Path
-workspace_at = step (λ p. workspace_name ∷ p) (λ p u. p) standing
+abbrev pub workspace_at : Point Path Space
+workspace_at = step (λ p. p) (λ p w. space_of p w) workspace
 
-abbrev pub manifest_at : Point Path Project
-manifest_at = step (λ p. package_name ∷ p) (λ p said. project_of p said) manifest
+abbrev pub manifest_at : Point Space Declared
+manifest_at = step (λ (k : Space). package_name ∷ k.place) (λ k said. record { space = k; said = said }) manifest
+
+abbrev pub store_at : Point Declared Project
+store_at = step (λ (k : Declared). k.space) (λ k u. project_of k.space.place k.said) store
 
 abbrev pub lock_at : Point Project Project
 lock_at = step (λ (k : Project). lock_name ∷ k.place) (λ k u. k) standing
@@ -42,24 +47,35 @@ planned_at = step (λ (k : Sources). k) (λ k plan. record { sources = k; plan =
 abbrev pub tree : Point Graph Build
 tree = then modules_at (then listed_at planned_at)
 
--- from the manifest on
+-- from the lockfile on
 abbrev pub goal : Point Project Build
 goal = then lock_at (then graph_at tree)
 
--- All points before anything is written: the words, no `pnpm-workspace.yaml`, the manifest, no `pnpm-lock.yaml`, the plain
--- graph, no `node_modules`, the files of its packages, and the tree.
+-- from the virtual store's place on
+abbrev pub from_store : Point Declared Build
+from_store = then store_at goal
+
+-- from the manifest on
+abbrev pub from_manifest : Point Space Build
+from_manifest = then manifest_at from_store
+
+-- All points before anything is written: the words, the workspace, the manifest, the virtual store's place, no
+-- `pnpm-lock.yaml`, the plain graph, no `node_modules`, the files of its packages, and the tree.
 abbrev pub install : Point Inputs Build
-install = then words_at (then workspace_at (then manifest_at goal))
+install = then words_at (then workspace_at from_manifest)
 
 -- the points up to one of them
-abbrev pub to_workspace : Point Inputs Path
+abbrev pub to_workspace : Point Inputs Space
 to_workspace = then words_at workspace_at
 
-abbrev pub to_manifest : Point Inputs Project
+abbrev pub to_manifest : Point Inputs Declared
 to_manifest = then to_workspace manifest_at
 
+abbrev pub to_store : Point Inputs Project
+to_store = then to_manifest store_at
+
 abbrev pub to_lock : Point Inputs Project
-to_lock = then to_manifest lock_at
+to_lock = then to_store lock_at
 
 abbrev pub to_graph : Point Inputs Graph
 to_graph = then to_lock graph_at
@@ -79,7 +95,8 @@ pub data StandsAt (i : Inputs) (w : Shown) (s : Status) : Type 0 where
   at_words : words_at.Cause i w s → StandsAt i w s
   at_workspace : After words_at i w.trees (λ k. workspace_at.Cause k w s) → StandsAt i w s
   at_manifest : After to_workspace i w.trees (λ k. manifest_at.Cause k w s) → StandsAt i w s
-  at_lock : After to_manifest i w.trees (λ k. lock_at.Cause k w s) → StandsAt i w s
+  at_store : After to_manifest i w.trees (λ k. store_at.Cause k w s) → StandsAt i w s
+  at_lock : After to_store i w.trees (λ k. lock_at.Cause k w s) → StandsAt i w s
   at_graph : After to_lock i w.trees (λ k. graph_at.Cause k w s) → StandsAt i w s
   at_modules : After to_graph i w.trees (λ k. modules_at.Cause k w s) → StandsAt i w s
   at_listed : After to_modules i w.trees (λ k. listed_at.Cause k w s) → StandsAt i w s

@@ -8,7 +8,8 @@ use Rattle.pn_manifest.specs.Said.{Said}
 use Rattle.pn_graph.specs.declared.plain.Plain.{Plain}
 use Rattle.pn_collect.specs.Outline.{direct_of}
 use Rattle.pn_plan.specs.Drawing.{is_within}
-use Rattle.pn_plan.specs.Writes.{DiffersOnly}
+use Rattle.pn_plan.specs.Plan.{is_planned}
+use Rattle.pn_plan.specs.Writes.{Writes, DiffersOnly}
 use Rattle.pn_layout.specs.declared.packages.Package.{Package}
 use Rattle.pn_layout.specs.Layout.{plan_of}
 use Rattle.pn_cmd.specs.declared.status.Which.TheVariants.{File}
@@ -42,8 +43,9 @@ pub record Untouched (old new : World) : Type 0 where
   pub touched : new.project.touched ≡ old.project.touched
   pub out : new.out ≡ old.out
 
--- Entries at and below the managed folder may differ, and nothing else does.
-pub record HalfWritten (i : Inputs) (old new : World) : Type 0 where
+-- Entries at planned paths may differ, all of them at or below the managed folder, and nothing else does.
+pub record HalfWritten (i : Inputs) (b : Build) (old new : World) : Type 0 where
+  pub planned : DiffersOnly (is_planned b.plan) old.project.tree new.project.tree
   pub project : DiffersOnly (is_within (modules_path i.place)) old.project.tree new.project.tree
   pub registry : new.registry.tree ≡ old.registry.tree
   pub out : new.out ≡ old.out
@@ -60,8 +62,9 @@ pub record IsInstalled (registry : Option Tree) (place : Path) (said : Said) (pl
 abbrev pub Installs : Option Tree → Path → Said → Plain → List Package → Option Tree → Option Tree → Type 0
 Installs registry place said plain packages old new = MatchOption old (new ≡ None) (λ t. (u : Tree) × (new ≡ Some u) × IsInstalled registry place said plain packages t u)
 
--- The project is installed.
+-- The project is installed, and what is planned is there; so it is also where the registry's tree isn't told.
 pub record Written (i : Inputs) (b : Build) (old new : World) : Type 0 where
+  pub plan : Writes old.registry.tree b.plan old.project.tree new.project.tree
   pub project : Installs old.registry.tree i.place b.sources.graph.project.said b.sources.graph.plain b.sources.packages old.project.tree new.project.tree
   pub registry : new.registry.tree ≡ old.registry.tree
 
@@ -74,6 +77,6 @@ pub record IsDone (i : Inputs) (b : Build) (old new : World) : Type 0 where
 -- How a run ends: with the first refusal, before anything is written; in the writing; at the report; or done.
 pub data Ends (i : Inputs) (old new : World) : Status → Type 0 where
   refused : (s : Status) → Refuses (install.Cause i) old new s → Untouched old new → Ends i old new s
-  stopped : (s : Status) (b : Build) → install.Finds i (trees_of old) b → Refuses Stops old new s → HalfWritten i old new → Ends i old new s
+  stopped : (s : Status) (b : Build) → install.Finds i (trees_of old) b → Refuses Stops old new s → HalfWritten i b old new → Ends i old new s
   unreported : (s : Status) (b : Build) → install.Finds i (trees_of old) b → Refuses Unreported old new s → Written i b old new → TookSome (report b.sources.packages) old.out new.out → Ends i old new s
   done : (b : Build) → IsDone i b old new → Ends i old new Done

@@ -5,6 +5,17 @@ use Rattle.pn_manifest.specs.Said.{Said}
 use Rattle.pn_graph.specs.declared.plain.Plain.{Plain}
 use Rattle.pn_layout.specs.declared.packages.Package.{Package}
 use Rattle.pn_plan.specs.declared.planned.Planned.{Planned}
+use Rattle.pn_workspace.specs.declared.search.Workspace.{Workspace}
+
+-- the folder, and its workspace
+pub record Space : Type 0 where
+  pub place : Path
+  pub workspace : Workspace
+
+-- and what the manifest there says
+pub record Declared : Type 0 where
+  pub space : Space
+  pub said : Said
 
 -- the project's folder, and what its manifest says
 pub record Project : Type 0 where
@@ -25,6 +36,12 @@ pub record Sources : Type 0 where
 pub record Build : Type 0 where
   pub sources : Sources
   pub plan : List Planned
+
+abbrev pub space_of : Path → Workspace → Space
+space_of place workspace = record { place = place; workspace = workspace }
+
+abbrev pub declared_of : Path → Workspace → Said → Declared
+declared_of place workspace said = record { space = space_of place workspace; said = said }
 
 abbrev pub project_of : Path → Said → Project
 project_of place said = record { place = place; said = said }

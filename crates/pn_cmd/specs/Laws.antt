@@ -9,7 +9,9 @@ use Rattle.pn_cmd.specs.World.{World, Inputs, Shown}
 use Rattle.pn_cmd.specs.Points.{Excludes}
 use Rattle.pn_cmd.specs.Names.{package_name}
 use Rattle.pn_cmd.specs.Words.{words}
+use Rattle.pn_cmd.specs.Spaces.{workspace}
 use Rattle.pn_cmd.specs.Standing.{standing}
+use Rattle.pn_cmd.specs.Stores.{store}
 use Rattle.pn_cmd.specs.Manifests.{IsManifest, manifest}
 use Rattle.pn_cmd.specs.Graph.{graph}
 use Rattle.pn_cmd.specs.Packages.{listed}
@@ -41,8 +43,10 @@ pub record AreTold (w : Shown) : Type 0 where
 -- Where a point is passed, none of its causes is there.
 pub record OrderLaw : Type 0 where
   pub words : Excludes words AreTold
+  pub workspace : Excludes workspace AreTold
   pub standing : Excludes standing AreTold
   pub manifest : Excludes manifest AreTold
+  pub store : Excludes store AreTold
   pub graph : Excludes graph AreTold
   pub listed : Excludes listed AreTold
   pub planned : Excludes planned AreTold

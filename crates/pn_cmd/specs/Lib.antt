@@ -5,6 +5,8 @@ pub mod Entries
 pub mod Words
 pub mod Standing
 pub mod Manifests
+pub mod Spaces
+pub mod Stores
 pub mod Graph
 pub mod Known
 pub mod Packages

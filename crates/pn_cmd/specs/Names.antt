@@ -2,9 +2,6 @@
 use Rattle.std.specs.Prelude.{ℕ, List, ◌∷◌, codes}
 use Rattle.pn_text.specs.Path.{Path}
 
-abbrev pub workspace_name : List ℕ
-workspace_name = codes "pnpm-workspace.yaml"
-
 abbrev pub package_name : List ℕ
 package_name = codes "package.json"
 

@@ -11,7 +11,10 @@ use Rattle.pn_manifest.specs.declared.fault.ManifestWhy.TheVariants.{Missing, No
 use Rattle.pn_cmd.specs.declared.status.Which.{Which}
 use Rattle.pn_cmd.specs.declared.status.Which.TheVariants.{Packages, File, Text, Path as PathLength, Entries}
 use Rattle.pn_cmd.specs.declared.status.FileWhy.{FileWhy}
-use Rattle.pn_cmd.specs.declared.status.FileWhy.TheVariants.{Manifest as of_manifest, BadTags}
+use Rattle.pn_yaml.specs.WhyTexts.{why_text as yaml_text}
+use Rattle.pn_workspace.specs.declared.fault.WorkspaceWhy.{WorkspaceWhy}
+use Rattle.pn_workspace.specs.declared.fault.WorkspaceWhy.TheVariants.{NotUtf8, TooDeep, Line, BadKey}
+use Rattle.pn_cmd.specs.declared.status.FileWhy.TheVariants.{Manifest as of_manifest, Workspace as of_workspace, BadTags}
 use Rattle.pn_cmd.specs.declared.status.Status.{Status}
 use Rattle.pn_cmd.specs.declared.status.Status.TheVariants.{Done, Memory, Usage, Manifest, NoVersion, Unsupported, Limit, Bundled, ProjectFault, RegistryFault, SinkFault, NotYet}
 use Rattle.pn_cmd.specs.Reports.{TookSome}
@@ -21,8 +24,16 @@ why_text Missing = codes "missing\n"
 why_text NotJson = codes "not JSON\n"
 why_text (BadField f k) = codes "bad field " ++ f ++ codes " " ++ k ++ codes "\n"
 
+-- the same of a workspace file
+abbrev pub space_text : WorkspaceWhy → List ℕ
+space_text NotUtf8 = codes "not UTF-8\n"
+space_text TooDeep = codes "too deep\n"
+space_text (Line n why) = codes "line " ++ decimal n ++ codes ": " ++ yaml_text why ++ codes "\n"
+space_text (BadKey k) = codes "bad key " ++ k ++ codes "\n"
+
 abbrev pub file_text : FileWhy → List ℕ
 file_text (of_manifest why) = why_text why
+file_text (of_workspace why) = space_text why
 file_text BadTags = codes "bad tags\n"
 
 abbrev pub which_text : Which → List ℕ

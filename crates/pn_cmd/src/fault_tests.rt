@@ -77,9 +77,9 @@ fn each_failed_call_of_the_project_is_told(rt: HostRuntime) -> Result<(), Fail> 
     let whole = with_project(alloc, u64::MAX)?;
     assert_eq!(rt; whole.code, 0);
     assert!(rt; whole.stands);
-    // a call for each of the three paths that are to be free, and three for the manifest; the next one
-    // makes the managed folder
-    let made = whole.first.saturating_add(6);
+    // a call for each folder that may have a workspace file, three for the manifest, and one for each of the two paths
+    // that are to be free; the next one makes the managed folder
+    let made = whole.first.saturating_add(7);
     assert!(rt; made < whole.end);
     for k in whole.first..whole.end {
         let trial = with_project(alloc, k)?;

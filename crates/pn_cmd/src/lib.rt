@@ -21,15 +21,18 @@ mod ready;
 mod refusal_tests;
 mod standing;
 mod status;
+mod store;
 #[cfg(test)]
 mod tests;
 mod text;
 mod top;
 mod words;
+mod workspace;
 mod write;
 
 pub use laws::{cause_law, lookup_law, order_law, point_law, settled_law};
 pub use pn_manifest::ManifestWhy;
+pub use pn_workspace::WorkspaceWhy;
 pub use status::{FileWhy, Status, Which};
 pub use text::tell;
 pub use top::run;

@@ -1,5 +1,5 @@
 // The point of the project's manifest.
-ghost use Rattle.std.specs.Prelude.{◌≡◌, ◌⊎◌, ◌≤◌, ◌∷◌, ℕ, List, length, IfOk, IfErr, IfSome, option_map};
+ghost use Rattle.std.specs.Prelude.{◌≡◌, ◌≤◌, ◌∷◌, ℕ, List, length, IfOk, IfErr, IfSome, option_map};
 ghost use Rattle.pn_text.specs.declared.limits.TheConstants.{PATH_LIMIT};
 ghost use Rattle.pn_text.specs.Path.{path_text};
 ghost use Rattle.pn_fs.specs.Seen.{Seen, Taken, Keeps};
@@ -13,6 +13,7 @@ ghost use Rattle.pn_cmd.specs.Manifests.{NoManifest, Declares, IsText, FoundIn, 
 
 use crate::entry::{EntryFault, entry};
 use crate::status::{FileWhy, Status, Which};
+use crate::workspace::not_yet;
 use pn_fs::ReadFs;
 use pn_manifest::{Manifest, ManifestFault, ManifestWhy};
 use pn_read::{SmallFault, read_small};
@@ -74,16 +75,6 @@ fn parse(alloc: Global, path: &AbsPath, bytes: &[u8]) -> Result<Manifest, Status
     match unbuilt_field(&manifest) {
         Some(field) => Err(not_yet(alloc, field)),
         None => Ok(manifest),
-    }
-}
-
-// The status for a field that isn't built yet.
-fn not_yet(alloc: Global, field: &str) -> Status
-    ensures { (result ≡ Status.NotYet field.now) ⊎ (result ≡ Status.Memory) }
-{
-    match Text::of(alloc, field) {
-        Ok(text) => Status::NotYet(text),
-        Err(_) => Status::Memory,
     }
 }
 

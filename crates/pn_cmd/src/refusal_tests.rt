@@ -8,7 +8,7 @@ use std::test::Fail;
 const LEAF: &str = r#"/a/1.0.0/package.json {"name":"a","version":"1.0.0"}"#;
 
 // What is refused: the words, the project's files and the registry's, and then the exit status and the text.
-const REFUSALS: [(&str, &str, &str, u8, &str); 23] = [
+const REFUSALS: [(&str, &str, &str, u8, &str); 31] = [
     ("", PROJECT, LEAF, 2, "usage: install"),
     ("update", PROJECT, LEAF, 2, "usage: install"),
     ("install --foo", PROJECT, LEAF, 2, "usage: install"),
@@ -84,10 +84,66 @@ const REFUSALS: [(&str, &str, &str, u8, &str); 23] = [
     ),
     (
         "install",
-        "/w/pnpm-workspace.yaml x",
+        "/w/pnpm-workspace.yaml a: &x 1",
+        LEAF,
+        3,
+        "manifest: /w/pnpm-workspace.yaml: line 1: left out",
+    ),
+    (
+        "install",
+        "/w/pnpm-workspace.yaml nodeLinker: hoisted",
+        LEAF,
+        3,
+        "manifest: /w/pnpm-workspace.yaml: bad key nodeLinker",
+    ),
+    (
+        "install",
+        "/pnpm-workspace.yaml packages: ['a[b]']",
+        LEAF,
+        3,
+        "manifest: /pnpm-workspace.yaml: bad key packages",
+    ),
+    (
+        "install",
+        "/pnpm-workspace.yaml hoist: true",
         LEAF,
         30,
-        "not yet: /w/pnpm-workspace.yaml",
+        "not yet: /",
+    ),
+    (
+        "install",
+        "/w/pnpm-workspace.yaml {catalog: {a: ^1}, packages: [b]}",
+        LEAF,
+        30,
+        "not yet: packages",
+    ),
+    (
+        "install",
+        "/w/pnpm-workspace.yaml {catalog: {a: ^1}, overrides: {a: ^1}}",
+        LEAF,
+        30,
+        "not yet: catalogs",
+    ),
+    (
+        "install",
+        "/w/pnpm-workspace.yaml overrides: {a: ^1}",
+        LEAF,
+        30,
+        "not yet: overrides",
+    ),
+    (
+        "install",
+        "/w/pnpm-workspace.yaml virtualStoreDir: v\n/w/package.json {}",
+        LEAF,
+        30,
+        "not yet: virtualStoreDir",
+    ),
+    (
+        "install",
+        "/w/pnpm-workspace.yaml virtualStoreDir: ../w\n/w/package.json {}",
+        LEAF,
+        3,
+        "manifest: /w/pnpm-workspace.yaml: bad key virtualStoreDir",
     ),
     (
         "install",

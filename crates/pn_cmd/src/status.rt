@@ -4,13 +4,16 @@ ghost use Rattle.pn_cmd.specs.Codes.{code_of};
 
 use pn_manifest::ManifestWhy;
 use pn_text::{Edge, PkgId, RelPath, Text};
+use pn_workspace::WorkspaceWhy;
 use thiserror::Error;
 
-/// What is wrong with a file: a manifest, by what is wrong with it; or a file of tags that says none.
+/// What is wrong with a file: a manifest or a workspace file, by what is wrong with it; or a file of tags that says none.
 #[derive(Debug, Drop, Error)]
 pub enum FileWhy {
     #[error("{0}")]
     Manifest(ManifestWhy),
+    #[error("{0}")]
+    Workspace(WorkspaceWhy),
     #[error("bad tags")]
     BadTags,
 }
@@ -40,7 +43,7 @@ pub enum Status {
     RegistryFault,
     /// The output took the report in part or not at all.
     SinkFault,
-    /// The path, field or specifier is valid and isn't built yet.
+    /// The path, field, setting, specifier or id is valid and isn't built yet.
     NotYet(Text),
 }
 

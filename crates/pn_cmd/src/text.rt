@@ -2,12 +2,15 @@
 ghost use Rattle.std.specs.Prelude.{◌≡◌, ◌⊎◌, IfOk, string_bytes, codes, true, false, ◌++◌};
 ghost use Rattle.std.specs.Fmt.{decimal};
 ghost use Rattle.pn_cmd.specs.Reports.{TookSome};
-ghost use Rattle.pn_cmd.specs.Texts.{status_line, why_text, file_text, which_text, edge_text, tail_text, TellsLine, Tells, OrMemory};
+ghost use Rattle.pn_yaml.specs.WhyTexts.{why_text as yaml_text};
+ghost use Rattle.pn_cmd.specs.Texts.{status_line, why_text, space_text, file_text, which_text, edge_text, tail_text, TellsLine, Tells, OrMemory};
 
 use crate::status::{FileWhy, Status, Which};
 use pn_fs::Sink;
 use pn_manifest::ManifestWhy;
 use pn_text::{DevFault, Edge, RelPath};
+use pn_workspace::WorkspaceWhy;
+use pn_yaml::Why;
 use std::alloc::{AllocError, Global};
 
 /// Tells a refusal. It answers the status, or Memory where there was none to tell a refusal.
@@ -79,8 +82,38 @@ fn file_line(alloc: Global, why: &FileWhy) -> Result<String, AllocError>
 {
     match why {
         FileWhy::Manifest(why) => why_line(alloc, why),
+        FileWhy::Workspace(why) => space_line(alloc, why),
         FileWhy::BadTags => String::from_str(alloc, "bad tags\n"),
     }
+}
+
+fn space_line(alloc: Global, why: &WorkspaceWhy) -> Result<String, AllocError>
+    ensures { IfOk result (λ s. string_bytes s ≡ space_text why.now) }
+{
+    match why {
+        WorkspaceWhy::NotUtf8 => String::from_str(alloc, "not UTF-8\n"),
+        WorkspaceWhy::TooDeep => String::from_str(alloc, "too deep\n"),
+        WorkspaceWhy::Line(line, why) => yaml_line(alloc, *line, *why),
+        WorkspaceWhy::BadKey(key) => bad_key_line(alloc, key.as_str()),
+    }
+}
+
+fn yaml_line(alloc: Global, line: u32, why: Why) -> Result<String, AllocError>
+    ensures { IfOk result (λ s. string_bytes s ≡ codes "line " ++ decimal line ++ codes ": " ++ yaml_text why ++ codes "\n") }
+{
+    let mut text = format!(in alloc; "line {line}: ")?;
+    text.push_str(why.text())?;
+    text.push_str("\n")?;
+    Ok(text)
+}
+
+fn bad_key_line(alloc: Global, key: &str) -> Result<String, AllocError>
+    ensures { IfOk result (λ s. string_bytes s ≡ codes "bad key " ++ key.now ++ codes "\n") }
+{
+    let mut line = String::from_str(alloc, "bad key ")?;
+    line.push_str(key)?;
+    line.push_str("\n")?;
+    Ok(line)
 }
 
 fn why_line(alloc: Global, why: &ManifestWhy) -> Result<String, AllocError>

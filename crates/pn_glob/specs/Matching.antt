@@ -1,5 +1,5 @@
 -- What patterns without braces match, and what a list of them matches.
-use Rattle.std.specs.Prelude.{ℕ, ◌==◌, ◌&&◌, ◌||◌, not, Bool, true, List, [], ◌∷◌}
+use Rattle.std.specs.Prelude.{ℕ, ◌==◌, ◌&&◌, ◌||◌, not, Bool, true, false, List, [], ◌∷◌}
 use Rattle.std.specs.List.{list_any}
 use Rattle.std.specs.Str.{bytes_eq}
 use Rattle.pn_glob.specs.declared.kind.Kind.{Kind}
@@ -34,6 +34,14 @@ pub record Patterns : Type 0 where
   pub kind : Kind
   pub positive : List (List ℕ)
   pub negative : List (List ℕ)
+
+abbrev pub is_nil : List (List ℕ) → Bool
+is_nil [] = true
+is_nil (p ∷ ps) = false
+
+-- there is no pattern
+abbrev pub is_bare : Patterns → Bool
+is_bare l = is_nil l.positive && is_nil l.negative
 
 -- some positive pattern matches, and no negative one does
 abbrev pub list_matches : Patterns → List ℕ → Bool

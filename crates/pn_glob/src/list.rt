@@ -3,7 +3,7 @@ ghost use Rattle.std.specs.Prelude.{◌≡◌, ◌∷◌, [], map, MatchOption, 
 ghost use Rattle.std.specs.List.{list_any};
 ghost use Rattle.pn_glob.specs.ReadLists.{Added, IsBad, fault_of};
 ghost use Rattle.pn_glob.specs.Lists.{AreNames, ArePaths, ReadAll, Refused, or_star};
-ghost use Rattle.pn_glob.specs.Matching.{Patterns, fits, list_matches};
+ghost use Rattle.pn_glob.specs.Matching.{Patterns, fits, is_bare, list_matches};
 
 use crate::bytes::bytes_match;
 use crate::fault::{Bad, GlobFault, Stop};
@@ -155,6 +155,13 @@ impl PatternList {
             positive,
             negative,
         })
+    }
+
+    /// Whether there is no pattern.
+    pub fn is_empty(&self) -> bool
+        ensures { result ≡ is_bare self.now }
+    {
+        self.positive.is_empty() && self.negative.is_empty()
     }
 
     /// Whether some positive pattern matches a text and no negative one does. It takes no memory, and steps in

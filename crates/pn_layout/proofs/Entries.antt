@@ -25,7 +25,7 @@ use Rattle.pn_layout.specs.Leaves.{leaves_of}
 use Rattle.pn_layout.proofs.Leafs.{IsLeafIn, own_in, file_in, link_in, IsLeaf, marks, direct_to, inside, Conforms, leaf_from, leaf_to, store_part, conform}
 use Rattle.pn_layout.proofs.Plans.{file_from}
 use Rattle.pn_layout.proofs.Ways.{top_relative, beside_relative}
-use Rattle.pn_layout.proofs.Within.{below_from, is_below_at, within_from, is_within_at}
+use Rattle.pn_plan.proofs.WithinLemmas.{below_from, is_below_at, within_from, is_within_at}
 
 filled_below : (q at : Path) → q ≢ [] → is_below at (q ++ at) ≡ true
 filled_below [] at some = absurd (some refl)

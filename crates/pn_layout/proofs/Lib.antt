@@ -9,7 +9,6 @@ pub mod Plans
 pub mod Findings
 pub mod Builds
 pub mod Drawings
-pub mod Within
 pub mod Once
 pub mod Leafs
 pub mod Entries

@@ -24,7 +24,7 @@ use Rattle.pn_layout.specs.Refusals.{IsTooLong}
 use Rattle.pn_layout.proofs.Drawings.{draws_then}
 use Rattle.pn_layout.proofs.Entries.{are_leaves, to_build, from_build}
 use Rattle.pn_layout.proofs.Leafs.{IsLeafIn, own_in, file_in, link_in, IsLeaf, marks, direct_to, inside, leaf_from}
-use Rattle.pn_layout.proofs.Within.{below_from, is_below_at, within_from, below_deeper}
+use Rattle.pn_plan.proofs.WithinLemmas.{below_from, is_below_at, within_from, below_deeper}
 
 entry_within : (at : Path) (leaves : List Leaf) → AreLeaves at leaves → (q : Path) (w : What) → IsEntry at leaves q w → (r : Path) × (q ≡ r ++ at)
 entry_within at leaves al _ _ top = ([], refl)

@@ -10,3 +10,4 @@ pub mod Outcome
 pub mod Writable
 pub mod Leaves
 pub mod Rooted
+pub mod WithinLemmas

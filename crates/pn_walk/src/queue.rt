@@ -21,7 +21,7 @@ use std::collections::BTreeMap;
 
 impl Queue {
     /// Takes one edge.
-    pub fn take<W: Ways>(
+    pub(crate) fn take<W: Ways>(
         &mut self,
         alloc: Global,
         ways: &mut W,
@@ -53,7 +53,7 @@ impl Queue {
     }
 
     /// Takes these edges, one after the other.
-    pub fn take_all<W: Ways>(
+    pub(crate) fn take_all<W: Ways>(
         &mut self,
         alloc: Global,
         ways: &mut W,
@@ -80,7 +80,7 @@ impl Queue {
     }
 
     /// Takes the edges of each package, of those too that are met on the way.
-    pub fn take_rest<W: Ways>(
+    pub(crate) fn take_rest<W: Ways>(
         &mut self,
         alloc: Global,
         ways: &mut W,

@@ -24,6 +24,7 @@ pub fn walked<W: Ways>(
     requires good { W.good ways.old }
     requires few { length projects.now < 2 ^ 32 }
     ensures walked { IfOk result (λ q. IsWalked (W.leads ways.old) (W.node ways.old) (start (turns_from 0 (asked_of projects.now))) (at [] q)) }
+    ensures tied { IfOk result IsTied }
     ensures refused { IfErr result (Stops (W.leads ways.old) (W.node ways.old) (W.lost ways.old) (W.unread ways.old) (folders_of projects.now) (start (turns_from 0 (asked_of projects.now)))) }
     ensures follows { W.follows ways.old ways.new }
     ensures good { W.good ways.new }

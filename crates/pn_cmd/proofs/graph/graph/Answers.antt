@@ -1,5 +1,4 @@
 use Rattle.std.proofs.Common.{◌≡◌, rules, subst}
-use Rattle.pn_fs.specs.Seen.{Keeps}
 use Rattle.pn_manifest.specs.Says.{said_of}
 use Rattle.pn_choice.specs.Graphs.{IsGraphOf}
 use Rattle.pn_choice.specs.Refusals.{Unplain}

@@ -1,0 +1,5 @@
+pub mod RootLemmas
+pub mod SearchLemmas
+pub mod FoundLemmas
+pub mod AnswerLemmas
+pub mod PlaceLemmas

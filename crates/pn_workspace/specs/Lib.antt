@@ -1,0 +1,5 @@
+pub mod Roots
+pub mod Contents
+pub mod Workspaces
+pub mod Stores
+pub mod Laws

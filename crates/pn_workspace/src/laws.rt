@@ -1,0 +1,18 @@
+// Laws of workspaces.
+ghost use Rattle.pn_workspace.specs.Laws.{AnswerLaw, PlaceLaw, RootLaw};
+
+/// A known tree gives a folder one workspace or one refusal, and never both.
+pub fn answer_law()
+    ensures { AnswerLaw }
+{}
+
+/// The root is the nearest folder with a workspace file, or the folder itself where neither it nor one above it has one.
+pub fn root_law()
+    ensures { RootLaw }
+{}
+
+/// The virtual store lies neither at a project's folder nor above one, and in a project's `node_modules` only as the
+/// default one, which may always lie there.
+pub fn place_law()
+    ensures { PlaceLaw }
+{}
