@@ -19,6 +19,7 @@ use Rattle.std.specs.Ordering.{nat_cmp, is_lt}
 use Rattle.std.proofs.Math.Seq.{take-length}
 use Rattle.std.proofs.lemmas.List.{take_more, get_or-take, get_or_default, length-take-le}
 use Rattle.std.proofs.lemmas.List.Elements.{All-from_recursion, All-weaker, Contains-push, Contains-push_cases, Contains-append_left, Contains-append_right, Contains-get_or}
+use Rattle.std.proofs.lemmas.List.Folds.{list_any_at}
 use Rattle.std.proofs.lemmas.List.Quantifiers.{all_pairs_push}
 use Rattle.pn_text.proofs.Bools.{or_cases, or_true}
 use Rattle.pn_text.proofs.Members.{none_in, in_cons, here, there}
@@ -83,12 +84,9 @@ some_passes p (x ∷ xs) e = elim (or_cases (p x) (list_any p xs) e) [
   | inr r ↦ (let s = some_passes p xs r in record { item = s.item; has = there x xs s.item s.has; passes = s.passes })
 ]
 
-any_has : {X : Type 0} (p : X → Bool) (xs : List X) (x : X) → p x ≡ true → Contains xs x → list_any p xs ≡ true
-any_has p [] x h c = absurd (none_in x c)
-any_has p (y ∷ ys) x h c = elim (in_cons y ys x c) [
-  | inl e ↦ subst (λ (b : Bool). (b || list_any p ys) ≡ true) (sym (ap p e ∙ h)) refl
-  | inr r ↦ subst (λ (b : Bool). (p y || b) ≡ true) (sym (any_has p ys x h r)) (or_true (p y))
-]
+-- a list with a member that passes
+pub any_has : {X : Type 0} (p : X → Bool) (xs : List X) (x : X) → p x ≡ true → Contains xs x → list_any p xs ≡ true
+any_has p xs x h c = list_any_at p xs c.0 x c.1 (ap p c.2 ∙ h)
 
 -- Whether a name is free is whether it is a peer of what is reached past it.
 pub decides : (packages : List Package) (n : List ℕ) (of : ℕ) (order : List ℕ) → AreReached (passing (Some n) packages) of order → Decides (list_any (is_peer_at packages n) order) (IsFree packages n of)

@@ -14,7 +14,8 @@ use Rattle.pn_graph.specs.Graphs.{At, Dep, Project, Package, in_range, are_deps,
 use Rattle.pn_graph.specs.Lookups.{package_deps}
 use Rattle.pn_graph.specs.Founds.{AreWithin}
 
-passes : {X : Type 0} (p : X → Bool) (xs : List X) (x : X) → list_all p xs ≡ true → Contains xs x → p x ≡ true
+-- a member of a list of which all pass
+pub passes : {X : Type 0} (p : X → Bool) (xs : List X) (x : X) → list_all p xs ≡ true → Contains xs x → p x ≡ true
 passes p xs x h c = All-contains (λ y. p y ≡ true) xs x (AllPass-from_list_all p xs h) c
 
 dep_within : (projects packages : ℕ) (deps : List Dep) → are_deps projects packages deps ≡ true → AreWithin packages deps

@@ -2,17 +2,16 @@
 use Rattle.std.proofs.Common.{◌≡◌, ◌<◌, ◌≤◌, ◌+◌, ℕ, zero, suc, Bool, true, false, List, [], ◌∷◌, length, get_or, Some, None, nat_cmp, Ordering, refl, sym, ap, ◌∙◌, subst, arith}
 use Rattle.std.specs.Prelude.{Ok, Err, nat_lt, if◌then◌else◌}
 use Rattle.std.specs.Str.{bytes_eq}
-use Rattle.std.specs.declared.cmp.Ordering.TheVariants.{Less, Equal, Greater}
-use Rattle.std.specs.Ordering.{is_lt, is_eq}
+use Rattle.std.specs.declared.cmp.Ordering.TheVariants.{Less, Greater}
+use Rattle.std.specs.Ordering.{is_lt}
 use Rattle.std.specs.Cmp.Lexicographic.{slice_cmp}
 use Rattle.std.specs.List.Sorted.{IsSortedBy, IsBinarySearchResult}
-use Rattle.std.proofs.lemmas.Bool.Decides.{nat_tests}
+use Rattle.std.proofs.lemmas.Bool.{ltb-true, ltb-false}
 use Rattle.std.proofs.lemmas.Cmp.{nat_list_cmp_total, tied_itself}
 use Rattle.std.proofs.lemmas.List.Sorted.{searchable_from_sorted}
-use Rattle.std.proofs.lemmas.Map.Text.{is_eq-slice_cmp}
+use Rattle.std.proofs.lemmas.Map.Lookups.{exact_bytes}
 use Rattle.std.proofs.lemmas.Slice.Eq.{bytes_eq-Decides}
 use Rattle.pn_text.proofs.Bools.{and_left, and_right}
-use Rattle.pn_text.proofs.Numbers.{below}
 use Rattle.pn_text.proofs.Orders.{is_less, not_before_self, not_both_before}
 use Rattle.pn_graph.specs.Graphs.{Dep, aliases, rises}
 use Rattle.pn_graph.specs.Lookups.{dep_at}
@@ -70,22 +69,16 @@ dep_absent x (d ∷ ds) none =
     subst (λ (b : Bool). (if b then Some d.to else dep_at x ds) ≡ None) (sym (not_same d.alias x (none 0 d (omega arith))))
     (dep_absent x ds (λ k o within. none (suc k) o (omega arith)))
 
-tied : (x y : List ℕ) → cmp x y ≡ Equal → x ≡ y
-tied x y e = (bytes_eq-Decides x y).0 (sym (is_eq-slice_cmp x y) ∙ ap is_eq e)
-
 not_after_itself : (x : List ℕ) → cmp x x ≡ Greater → ⊥
 not_after_itself x h = let same = tied_itself nat_list_cmp_total x in cc (same, h)
-
-not_below : (k n : ℕ) → nat_lt k n ≡ false → n ≤ k
-not_below k n e = grind (arith, nat_tests, e)
 
 pub none_at : (x : List ℕ) (deps : List Dep) (at : ℕ) → rises (aliases deps) ≡ true → IsBinarySearchResult (λ (d : Dep). cmp d.alias x) deps (Err at) → (k : ℕ) (o : Dep) → k < length deps → (get_or deps k o).alias ≡ x → ⊥
 none_at x deps at h parted k o within is =
     let parts = parted (searchable_from_sorted nat_list_cmp_total (λ (d : Dep). d.alias) deps x (sorted deps h)) in
     elim (nat_lt k at) as (λ b. nat_lt k at ≡ b → ⊥) [
-      | true ↦ λ e. not_before_self x (subst (λ (z : List ℕ). cmp z x ≡ Less) is (parts.0 k o (omega arith) (below k at e)))
-      | false ↦ λ e. not_after_itself x (subst (λ (z : List ℕ). cmp z x ≡ Greater) is (parts.1 k o (not_below k at e) within))
+      | true ↦ λ e. not_before_self x (subst (λ (z : List ℕ). cmp z x ≡ Less) is (parts.0 k o (omega arith) (ltb-true k at e)))
+      | false ↦ λ e. not_after_itself x (subst (λ (z : List ℕ). cmp z x ≡ Greater) is (parts.1 k o (ltb-false k at e) within))
     ] refl
 
 pub found_at : (x : List ℕ) (deps : List Dep) (at : ℕ) (o : Dep) → rises (aliases deps) ≡ true → at < length deps → IsBinarySearchResult (λ (d : Dep). cmp d.alias x) deps (Ok at) → dep_at x deps ≡ Some ((get_or deps at o).to)
-found_at x deps at o h within equal = dep_there x deps at o h within (tied (get_or deps at o).alias x (equal o))
+found_at x deps at o h within equal = dep_there x deps at o h within (exact_bytes (get_or deps at o).alias x (equal o))

@@ -9,3 +9,4 @@ pub mod TextOfLemmas
 pub mod FlaggedLemmas
 pub mod PeerOfLemmas
 pub mod ManifestLawLemmas
+pub mod IsRisingSaidLemmas

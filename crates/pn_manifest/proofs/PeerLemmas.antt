@@ -29,7 +29,7 @@ before o (p ∷ ps) h = ap (λ c. match_ordering c (any_peer o ∷ p ∷ ps) (ma
 behind : (o : List ℕ) (p : Peer) (ps : List Peer) → slice_cmp nat_cmp p.name o ≡ Less → with_optional o (p ∷ ps) ≡ p ∷ with_optional o ps
 behind o p ps h = ap (λ c. match_ordering c (any_peer o ∷ p ∷ ps) (marked p ∷ ps) (p ∷ with_optional o ps)) (turned p.name o Less h)
 
--- names behind it leave the first peer as it is
+-- names after it leave the first peer as it is
 first_stays : (p : Peer) (ps : List Peer) (os : List (List ℕ)) → IsBelow p.name os → with_optionals os (p ∷ ps) ≡ p ∷ with_optionals os ps
 first_stays p ps [] h = refl
 first_stays p ps (o ∷ os) h = ap (with_optional o) (first_stays p ps os h.1) ∙ behind o p (with_optionals os ps) h.0
@@ -69,7 +69,7 @@ required_names (d ∷ ds) = ap (λ (ns : List (List ℕ)). d.0 ∷ ns) (required
 pub peers_rise : (ds : List Pair) (os : List (List ℕ)) → AreRising (names ds) → AreRising (peer_names (peers_of ds os))
 peers_rise ds os h = rises_withs os (map required ds) (subst AreRising (sym (required_names ds)) h)
 
--- the first peer is of the first declared name, where all optional names are behind it
+-- the first peer is of the first declared name, where all optional names are after it
 pub declared_first : (d : Pair) (ds : List Pair) (os : List (List ℕ)) → IsBelow d.0 os → peers_of (d ∷ ds) os ≡ required d ∷ peers_of ds os
 declared_first d ds os h = first_stays (required d) (map required ds) os h
 
@@ -82,7 +82,7 @@ both_first d ds o os same h =
     ∙ ap (λ c. match_ordering c (any_peer o ∷ required d ∷ rest) (marked (required d) ∷ rest) (required d ∷ with_optional o rest))
     (subst (λ (k : List ℕ). slice_cmp nat_cmp o k ≡ Equal) (sym same) (tied_itself nat_list_cmp_total o))
 
--- of the first optional name, where all declared names are behind it
+-- of the first optional name, where all declared names are after it
 pub optional_first : (ds : List Pair) (o : List ℕ) (os : List (List ℕ)) → IsBelow o (names ds) → AreRising (o ∷ os) → peers_of ds (o ∷ os) ≡ any_peer o ∷ peers_of ds os
 unfolding IsStrictlySortedBy
 optional_first ds o os below h =

@@ -21,7 +21,7 @@ pub rising_one : (e : Pair) → IsRising (e ∷ [])
 unfolding IsStrictlySortedBy
 rising_one e = (tt, tt)
 
-all_with : (P : List ℕ → Type 0) (k : List ℕ) (d : Data) (rest : List Pair) → P k → AllByRecursion P (names rest) → AllByRecursion P (names (pair_with k d rest))
+pub all_with : (P : List ℕ → Type 0) (k : List ℕ) (d : Data) (rest : List Pair) → P k → AllByRecursion P (names rest) → AllByRecursion P (names (pair_with k d rest))
 all_with P k null rest p h = h
 all_with P k (boolean b) rest p h = h
 all_with P k (number n) rest p h = h
@@ -33,7 +33,7 @@ all_pairs : (P : List ℕ → Type 0) (es : List (String Global × Value)) → A
 all_pairs P [] h = tt
 all_pairs P (e ∷ es) h = all_with P (string_bytes e.0) (view e.1) (pairs (members_view es)) h.0 (all_pairs P es h.1)
 
-rising_with : (k : List ℕ) (d : Data) (rest : List Pair) → AllByRecursion (λ y. slice_cmp nat_cmp k y ≡ Less) (names rest) → IsRising rest → IsRising (pair_with k d rest)
+pub rising_with : (k : List ℕ) (d : Data) (rest : List Pair) → AllByRecursion (λ y. slice_cmp nat_cmp k y ≡ Less) (names rest) → IsRising rest → IsRising (pair_with k d rest)
 unfolding IsStrictlySortedBy
 rising_with k null rest a h = h
 rising_with k (boolean b) rest a h = h
@@ -49,7 +49,7 @@ rising_pairs [] h = tt
 rising_pairs (e ∷ es) h =
     rising_with (string_bytes e.0) (view e.1) (pairs (members_view es)) (all_pairs (λ y. slice_cmp nat_cmp (string_bytes e.0) y ≡ Less) es h.0) (rising_pairs es h.1)
 
-all_if : (P : List ℕ → Type 0) (b : Bool) (k : List ℕ) (rest : List (List ℕ)) → P k → AllByRecursion P rest → AllByRecursion P (if b then k ∷ rest else rest)
+pub all_if : (P : List ℕ → Type 0) (b : Bool) (k : List ℕ) (rest : List (List ℕ)) → P k → AllByRecursion P rest → AllByRecursion P (if b then k ∷ rest else rest)
 all_if P true k rest p h = (p, h)
 all_if P false k rest p h = h
 
@@ -57,7 +57,7 @@ all_flagged : (P : List ℕ → Type 0) (flag : List ℕ) (es : List (String Glo
 all_flagged P flag [] h = tt
 all_flagged P flag (e ∷ es) h = all_if P (has_flag flag (view e.1)) (string_bytes e.0) (flagged flag (members_view es)) h.0 (all_flagged P flag es h.1)
 
-rising_if : (b : Bool) (k : List ℕ) (rest : List (List ℕ)) → AllByRecursion (λ y. slice_cmp nat_cmp k y ≡ Less) rest → AreRising rest → AreRising (if b then k ∷ rest else rest)
+pub rising_if : (b : Bool) (k : List ℕ) (rest : List (List ℕ)) → AllByRecursion (λ y. slice_cmp nat_cmp k y ≡ Less) rest → AreRising rest → AreRising (if b then k ∷ rest else rest)
 unfolding IsStrictlySortedBy
 rising_if true k rest a h = (a, h)
 rising_if false k rest a h = h

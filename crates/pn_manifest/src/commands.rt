@@ -49,7 +49,7 @@ fn own_bin(alloc: Global, name: &Option<PkgName>, path: &str) -> Result<Entries,
     Ok(Entries::of(all))
 }
 
-// What is behind the last slash.
+// What is after the last slash.
 fn last_part(text: &str) -> &str
     ensures { result.now ≡ last_part text.now }
 {

@@ -14,6 +14,17 @@ pub struct Dependency {
     pub specifier: Text,
 }
 
+impl Dependency {
+    /// An equal dependency.
+    pub fn copy(&self, alloc: Global) -> Result<Dependency, Memory>
+        ensures { IfOk result (λ d. pair_of d ≡ pair_of self.now) }
+    {
+        let name = self.name.copy(alloc)?;
+        let specifier = self.specifier.copy(alloc)?;
+        Ok(Dependency { name, specifier })
+    }
+}
+
 /// Dependencies in byte order of names, no name twice.
 #[derive(Drop)]
 pub struct Dependencies {
@@ -50,6 +61,7 @@ impl Dependencies {
         Dependencies { items }
     }
 
+    /// The dependencies.
     pub fn as_slice(&self) -> &[Dependency]
         ensures pairs { map pair_of result.now ≡ self.now }
         ensures rising { IsRising self.now }
@@ -57,18 +69,21 @@ impl Dependencies {
         self.items.as_slice()
     }
 
+    /// How many there are.
     pub fn len(&self) -> usize
         ensures { result ≡ length self.now }
     {
         self.items.len()
     }
 
+    /// Whether there is none.
     pub fn is_empty(&self) -> bool
         ensures { IsTrue result ↔ (self.now ≡ []) }
     {
         self.items.is_empty()
     }
 
+    /// Equal dependencies.
     pub fn copy(&self, alloc: Global) -> Result<Dependencies, Memory>
         ensures { IfOk result (λ d. d ≡ self.now) }
     {
@@ -82,16 +97,8 @@ fn copy_all(alloc: Global, items: &[Dependency]) -> Result<Vec<Dependency>, Memo
 {
     let mut all = Vec::new(alloc);
     for item in items {
-        let copied = copy_one(alloc, item)?;
+        let copied = item.copy(alloc)?;
         all.push(copied)?;
     }
     Ok(all)
-}
-
-fn copy_one(alloc: Global, one: &Dependency) -> Result<Dependency, Memory>
-    ensures { IfOk result (λ d. pair_of d ≡ pair_of one.now) }
-{
-    let name = one.name.copy(alloc)?;
-    let specifier = one.specifier.copy(alloc)?;
-    Ok(Dependency { name, specifier })
 }

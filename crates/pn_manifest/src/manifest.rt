@@ -50,7 +50,6 @@ impl Manifest {
     {
         let value = read_object(alloc, bytes)?;
         let manifest = read_fields(alloc, &value)?;
-        rises(&manifest); // for the order of its lists
         Ok(manifest)
     }
 
@@ -74,20 +73,6 @@ impl Manifest {
             overrides: texts.overrides,
         })
     }
-}
-
-// Each list is in byte order, as its type keeps it.
-fn rises(manifest: &Manifest)
-    ensures { IsRisingSaid (said_of manifest.now) }
-{
-    let _ = manifest.dependencies.as_slice();
-    let _ = manifest.dev.as_slice();
-    let _ = manifest.optional.as_slice();
-    let _ = manifest.peers.as_slice();
-    let _ = manifest.scripts.as_slice();
-    let _ = manifest.bins.as_slice();
-    let _ = manifest.injected.as_slice();
-    let _ = manifest.overrides.as_slice();
 }
 
 // What the object says.

@@ -14,6 +14,21 @@ pub struct Peer {
     pub optional: bool,
 }
 
+impl Peer {
+    /// An equal peer.
+    pub fn copy(&self, alloc: Global) -> Result<Peer, Memory>
+        ensures { IfOk result (λ p. p ≡ self.now) }
+    {
+        let name = self.name.copy(alloc)?;
+        let text = self.text.copy(alloc)?;
+        Ok(Peer {
+            name,
+            text,
+            optional: self.optional,
+        })
+    }
+}
+
 /// Peers in byte order of names, no name twice.
 #[derive(Drop)]
 pub struct Peers {
@@ -43,6 +58,7 @@ impl Peers {
         Peers { items }
     }
 
+    /// The peers.
     pub fn as_slice(&self) -> &[Peer]
         ensures peers { result.now ≡ self.now }
         ensures rising { AreRising (peer_names self.now) }
@@ -50,12 +66,14 @@ impl Peers {
         self.items.as_slice()
     }
 
+    /// Whether there is none.
     pub fn is_empty(&self) -> bool
         ensures { IsTrue result ↔ (self.now ≡ []) }
     {
         self.items.is_empty()
     }
 
+    /// Equal peers.
     pub fn copy(&self, alloc: Global) -> Result<Peers, Memory>
         ensures { IfOk result (λ p. p ≡ self.now) }
     {
@@ -69,20 +87,8 @@ fn copy_all(alloc: Global, items: &[Peer]) -> Result<Vec<Peer>, Memory>
 {
     let mut all = Vec::new(alloc);
     for item in items {
-        let copied = copy_one(alloc, item)?;
+        let copied = item.copy(alloc)?;
         all.push(copied)?;
     }
     Ok(all)
-}
-
-fn copy_one(alloc: Global, one: &Peer) -> Result<Peer, Memory>
-    ensures { IfOk result (λ p. p ≡ one.now) }
-{
-    let name = one.name.copy(alloc)?;
-    let text = one.text.copy(alloc)?;
-    Ok(Peer {
-        name,
-        text,
-        optional: one.optional,
-    })
 }

@@ -51,6 +51,7 @@ impl Entries {
         Entries { items }
     }
 
+    /// The entries.
     pub fn as_slice(&self) -> &[Entry]
         ensures pairs { map entry_pair result.now ≡ self.now }
         ensures rising { IsRising self.now }
@@ -58,12 +59,14 @@ impl Entries {
         self.items.as_slice()
     }
 
+    /// Whether there is none.
     pub fn is_empty(&self) -> bool
         ensures { IsTrue result ↔ (self.now ≡ []) }
     {
         self.items.is_empty()
     }
 
+    /// Equal entries.
     pub fn copy(&self, alloc: Global) -> Result<Entries, Memory>
         ensures { IfOk result (λ p. p ≡ self.now) }
     {
@@ -128,6 +131,7 @@ impl Names {
         Names { items }
     }
 
+    /// The names.
     pub fn as_slice(&self) -> &[PkgName]
         ensures names { result.now ≡ self.now }
         ensures rising { AreRising self.now }
@@ -135,6 +139,7 @@ impl Names {
         self.items.as_slice()
     }
 
+    /// Equal names.
     pub fn copy(&self, alloc: Global) -> Result<Names, Memory>
         ensures { IfOk result (λ p. p ≡ self.now) }
     {

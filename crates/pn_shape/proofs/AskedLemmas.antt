@@ -1,9 +1,11 @@
 -- What nodes ask for, one after the other.
-use Rattle.std.proofs.Common.{◌≡◌, ◌<◌, ◌+◌, ℕ, zero, suc, List, [], ◌∷◌, ◌++◌, Bool, true, false, Some, None, length, map, refl, sym, ap, ◌∙◌, subst, arith, inl, inr}
+use Rattle.std.proofs.Common.{◌≡◌, ◌<◌, ◌+◌, ℕ, zero, suc, List, [], ◌∷◌, ◌++◌, Bool, true, false, Some, length, map, refl, sym, ap, ◌∙◌, subst, arith, inl, inr}
 use Rattle.std.specs.Prelude.{cond, slice_get, ◌==◌}
 use Rattle.std.specs.List.{All, Contains}
 use Rattle.std.specs.List.Sorted.{IsStrictlySortedBy}
+use Rattle.std.proofs.lemmas.Bool.{eq-eqb}
 use Rattle.std.proofs.lemmas.List.{append-nil}
+use Rattle.std.proofs.lemmas.Option.{none-some, same_Some}
 use Rattle.std.proofs.lemmas.List.Elements.{All-head, All-tail, Contains-append_cases}
 use Rattle.pn_text.proofs.Members.{none_in, from_map}
 use Rattle.pn_manifest.specs.Said.{AreRising}
@@ -75,23 +77,15 @@ first_asks at same i j ws rest is lt =
 number_is : (j i : ℕ) → (j == i) ≡ true → i < suc j
 number_is j i h = grind arith
 
-equal : (j i : ℕ) → j ≡ i → (j == i) ≡ true
-equal j i e = grind arith
-
 apart : (j i k : ℕ) → i ≡ j + suc k → (j == i) ≡ false
 apart j i k e = grind arith
 
 -- what the node at a place asks for
 pub asked_there : (at : ℕ → Place) → ((i j : ℕ) → same_place (at i) (at j) ≡ (i == j)) → (i j k : ℕ) (lists : List (List Wish)) (ws : List Wish) → i ≡ j + k → slice_get lists k ≡ Some ws → asked_by (at i) (turns_at at j lists) ≡ map (turn_by (at i)) ws
-asked_there at same i j k [] ws is h = absurd (none h) where
-  none : None ≡ Some ws → ⊥
-  none e = cc e
+asked_there at same i j k [] ws is h = absurd (none-some ws h)
 asked_there at same i j zero (us ∷ rest) ws is h =
     let here : j ≡ i = omega (arith, is) in
-    first_asks at same i j us rest (equal j i here) (omega (arith, here)) ∙ ap (λ (n : ℕ). map (turn_by (at n)) us) here ∙ ap (map (turn_by (at i))) (one us ws h)
-  where
-    one : (us ws : List Wish) → Some us ≡ Some ws → us ≡ ws
-    one us ws e = cc e
+    first_asks at same i j us rest (eq-eqb j i here) (omega (arith, here)) ∙ ap (λ (n : ℕ). map (turn_by (at n)) us) here ∙ ap (map (turn_by (at i))) (same_Some us ws h)
 asked_there at same i j (suc k) (us ∷ rest) ws is h = passed (at i) at j us rest (same j i ∙ apart j i k is) ∙ asked_there at same i (suc j) k rest ws (omega (arith, is)) h
 
 pub turn_aliases : (p : Place) (ws : List Wish) → map alias_in (map (turn_by p) ws) ≡ aliases_of ws

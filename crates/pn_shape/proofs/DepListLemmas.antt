@@ -1,6 +1,7 @@
 -- Lists of dependencies, as one edge more is gone through.
 use Rattle.std.proofs.Common.{◌≡◌, ◌<◌, ◌≤◌, ◌+◌, ℕ, zero, suc, List, [], ◌∷◌, ◌++◌, true, false, length, get_or, refl, sym, ap, ◌∙◌, subst, arith}
 use Rattle.std.specs.Prelude.{set, replicate, ◌==◌}
+use Rattle.std.proofs.lemmas.Bool.{eq-eqb, ne_eqb}
 use Rattle.std.proofs.lemmas.List.{length-set, length-replicate}
 use Rattle.pn_graph.specs.declared.links.Dep.{Dep}
 use Rattle.pn_walk.specs.declared.wish.Place.{Place}
@@ -10,7 +11,7 @@ use Rattle.pn_shape.specs.Shapes.{dep_to, deps_by}
 use Rattle.pn_shape.specs.DepLists.{AreDepsFrom, AreDeps, HasDeps}
 use Rattle.pn_shape.specs.Fits.{IsBetween}
 use Rattle.pn_shape.specs.declared.lists.DepLists.{DepLists}
-use Rattle.pn_shape.proofs.LinkLemmas.{number_self, deps_more, one_own, one_other, others_stay}
+use Rattle.pn_shape.proofs.LinkLemmas.{deps_more, one_own, one_other, others_stay}
 
 -- no edge of these nodes
 rest_stay : (at : ℕ → Place) (k : ℕ) (links : List Link) (l : Link) (lists : List (List Dep)) → ((j : ℕ) → k ≤ j → deps_by (at j) (l ∷ []) ≡ []) → AreDepsFrom at k links lists → AreDepsFrom at k (links ++ l ∷ []) lists
@@ -23,9 +24,6 @@ rest_stay at k links l (ds ∷ rest) none h = (
 pub elsewhere : (at : ℕ → Place) (count : ℕ) (links : List Link) (l : Link) (lists : List (List Dep)) → ((j : ℕ) → deps_by (at j) (l ∷ []) ≡ []) → AreDeps at count links lists → AreDeps at count (links ++ l ∷ []) lists
 elsewhere at count links l lists none h = record { long = h.long; each = rest_stay at 0 links l lists (λ j le. none j) h.each }
 
-differ : (j k : ℕ) → (j ≡ k → ⊥) → (j == k) ≡ false
-differ j k h = grind arith
-
 -- an edge of the node at a place
 put_from : (at : ℕ → Place) → ((i j : ℕ) → same_place (at i) (at j) ≡ (i == j)) → (k q j : ℕ) (links : List Link) (l : Link) (dep : Dep) (lists : List (List Dep)) → j ≡ k + q → l.turn.who ≡ at j → q < length lists
     → dep_to l.turn l.to ≡ dep ∷ [] → AreDepsFrom at k links lists → AreDepsFrom at k (links ++ l ∷ []) (set lists q (get_or lists q [] ++ dep ∷ []))
@@ -34,16 +32,16 @@ put_from at same k q j links l dep [] place who lt is h = absurd (none q lt) whe
   none q h = omega (arith, h)
 put_from at same k zero j links l dep (ds ∷ rest) place who lt is h =
     let here : j ≡ k = omega (arith, place) in
-    let own : same_place l.turn.who (at k) ≡ true = ap (λ (p : Place). same_place p (at k)) (who ∙ ap at here) ∙ same k k ∙ number_self k in (
+    let own : same_place l.turn.who (at k) ≡ true = ap (λ (p : Place). same_place p (at k)) (who ∙ ap at here) ∙ same k k ∙ eq-eqb k k refl in (
       ap (λ (x : List Dep). x ++ dep ∷ []) h.0 ∙ ap (λ (x : List Dep). deps_by (at k) links ++ x) (sym is ∙ sym (one_own (at k) l own)) ∙ sym (deps_more (at k) links l),
-      rest_stay at (suc k) links l rest (λ i le. one_other (at i) l (ap (λ (p : Place). same_place p (at i)) who ∙ same j i ∙ differ j i (λ e. apart j k i here e le))) h.1,
+      rest_stay at (suc k) links l rest (λ i le. one_other (at i) l (ap (λ (p : Place). same_place p (at i)) who ∙ same j i ∙ ne_eqb j i (λ e. apart j k i here e le))) h.1,
     )
   where
     apart : (j k i : ℕ) → j ≡ k → j ≡ i → suc k ≤ i → ⊥
     apart j k i a b c = omega (arith, a, b, c)
 put_from at same k (suc q) j links l dep (ds ∷ rest) place who lt is h =
     let later : j ≡ suc k + q = omega (arith, place) in
-    let other : same_place l.turn.who (at k) ≡ false = ap (λ (p : Place). same_place p (at k)) who ∙ same j k ∙ differ j k (λ e. apart j k q later e) in (
+    let other : same_place l.turn.who (at k) ≡ false = ap (λ (p : Place). same_place p (at k)) who ∙ same j k ∙ ne_eqb j k (λ e. apart j k q later e) in (
       h.0 ∙ others_stay (at k) links l (one_other (at k) l other),
       put_from at same (suc k) q j links l dep rest later who (omega arith) is h.1,
     )

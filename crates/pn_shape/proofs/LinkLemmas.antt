@@ -1,16 +1,19 @@
 -- The edges of one node, and the dependencies that they are.
-use Rattle.std.proofs.Common.{◌≡◌, ℕ, List, [], ◌∷◌, ◌++◌, Bool, true, false, Option, Some, None, refl, sym, ap, ◌∙◌, subst, arith, inl, inr, append_assoc}
+use Rattle.std.proofs.Common.{◌≡◌, List, [], ◌∷◌, ◌++◌, Bool, true, false, Option, Some, None, refl, sym, ap, ◌∙◌, subst, inl, inr, append_assoc}
 use Rattle.std.specs.List.{All, Contains}
-use Rattle.std.specs.Prelude.{cond, ◌==◌}
+use Rattle.std.specs.Prelude.{cond}
+use Rattle.std.proofs.lemmas.Bool.{eqb-true}
 use Rattle.std.proofs.lemmas.List.{append-nil}
+use Rattle.std.proofs.lemmas.Option.{none-some, same_Some}
 use Rattle.std.proofs.lemmas.List.Elements.{filter-append, All-filter, Contains-append_left, Contains-append_right, Contains-append_cases}
 use Rattle.pn_text.proofs.Members.{none_in, in_cons, here, there}
 use Rattle.pn_graph.specs.declared.links.Dep.{Dep}
 use Rattle.pn_walk.specs.declared.wish.Place.{Place}
 use Rattle.pn_walk.specs.declared.wish.Place.TheVariants.{Project as at_project, Package as at_package}
 use Rattle.pn_walk.specs.Walks.{Link, same_place}
+use Rattle.pn_walk.proofs.FilterLemmas.{in_filter, to_filter}
+use Rattle.pn_walk.proofs.GraphLemmas.{place_self}
 use Rattle.pn_shape.specs.Shapes.{at_of, dep_to, deps_in, links_by, deps_by}
-use Rattle.pn_shape.proofs.ListLemmas.{in_filter, to_filter}
 
 deps_append : (xs ys : List Link) → deps_in (xs ++ ys) ≡ deps_in xs ++ deps_in ys
 deps_append [] ys = refl
@@ -69,12 +72,8 @@ one_of (l ∷ ls) d c = elim (Contains-append_cases (dep_to l.turn l.to) (deps_i
 
 dep_there : (l : Link) (o : Option Place) (p : Place) (d : Dep) → o ≡ Some p
     → dep_at l p ≡ d → Contains (dep_to l.turn o) d
-dep_there l None p d h is = absurd (none_some p h) where
-  none_some : (p : Place) → None ≡ Some p → ⊥
-  none_some p e = cc e
-dep_there l (Some q) p d h is = subst (λ (x : Dep). Contains (dep_to l.turn (Some q)) x) (ap (dep_at l) (one q p h) ∙ is) (here (dep_at l q) []) where
-  one : (q p : Place) → Some q ≡ Some p → q ≡ p
-  one q p e = cc e
+dep_there l None p d h is = absurd (none-some p h)
+dep_there l (Some q) p d h is = subst (λ (x : Dep). Contains (dep_to l.turn (Some q)) x) (ap (dep_at l) (same_Some q p h) ∙ is) (here (dep_at l q) [])
 
 pub dep_of_one : (links : List Link) (l : Link) (p : Place) (d : Dep) → Contains links l → l.to ≡ Some p
     → dep_at l p ≡ d → Contains (deps_in links) d
@@ -85,21 +84,11 @@ dep_of_one (x ∷ xs) l p d c h is = elim (in_cons x xs l c) [
 ]
 
 -- places that the test finds equal are
-same_number : (a b : ℕ) → (a == b) ≡ true → a ≡ b
-same_number a b h = grind arith
-
 pub place_is : (p q : Place) → same_place p q ≡ true → p ≡ q
-place_is (at_project a) (at_project b) h = ap at_project (same_number a b h)
+place_is (at_project a) (at_project b) h = ap at_project (eqb-true a b h)
 place_is (at_project a) (at_package b) h = cc h
 place_is (at_package a) (at_project b) h = cc h
-place_is (at_package a) (at_package b) h = ap at_package (same_number a b h)
-
-pub number_self : (n : ℕ) → (n == n) ≡ true
-number_self n = grind arith
-
-pub place_self : (p : Place) → same_place p p ≡ true
-place_self (at_project q) = number_self q
-place_self (at_package k) = number_self k
+place_is (at_package a) (at_package b) h = ap at_package (eqb-true a b h)
 
 -- the edges of a node are those with it as asker
 pub from_by : (who : Place) (links : List Link) (l : Link) → Contains (links_by who links) l → Contains links l × (l.turn.who ≡ who)

@@ -1,6 +1,6 @@
 -- The dependencies of a shape are what wishes lead to.
-use Rattle.std.proofs.Common.{◌≡◌, ◌+◌, ℕ, zero, suc, List, [], ◌∷◌, ◌++◌, Bool, true, false, Option, Some, None, map, refl, sym, ap, ◌∙◌, subst, arith, inl, inr}
-use Rattle.std.specs.Prelude.{slice_get, ◌==◌}
+use Rattle.std.proofs.Common.{◌≡◌, ◌+◌, ℕ, zero, suc, List, [], ◌∷◌, ◌++◌, Bool, true, Option, Some, None, map, refl, sym, ap, ◌∙◌, subst, arith, inl, inr}
+use Rattle.std.specs.Prelude.{slice_get}
 use Rattle.std.specs.List.{All, Contains}
 use Rattle.std.proofs.lemmas.List.Elements.{All-contains, Contains-append_left, Contains-append_right, Contains-append_cases}
 use Rattle.pn_text.proofs.Members.{none_in, in_cons, here, there, from_map, to_map}
@@ -16,30 +16,15 @@ use Rattle.pn_walk.specs.WalkLaws.{AreSettled}
 use Rattle.pn_walk.specs.Walks.{Turn, Link, State, turn_by, turns_of, same_place, asked_by, IsOfProject}
 use Rattle.pn_walk.specs.Wants.{Id}
 use Rattle.pn_graph.specs.declared.links.At.TheVariants.{Package as at_ix}
-use Rattle.pn_graph.specs.declared.links.At.{At}
 use Rattle.pn_graph.specs.declared.links.Dep.{Dep}
 use Rattle.pn_graph.specs.declared.links.Package.{Package}
 use Rattle.pn_graph.specs.declared.links.Project.{Project}
 use Rattle.pn_shape.specs.Shapes.{at_of, dep_to, deps_in, links_by, deps_by, projects_from, IsPackageOf, ArePackagesFrom, all_met, next, IsShape}
-use Rattle.pn_shape.specs.Words.{LeadsTo, AreLinks, HasNode, wishes_at, IsInWords}
-use Rattle.pn_shape.proofs.ListLemmas.{place_in, at_place, get_from_map, get_to_map, in_filter, to_filter}
-
--- places are told apart
-same_number : (n : ℕ) → (n == n) ≡ true
-same_number n = grind arith
-
-number_is : (n m : ℕ) → (n == m) ≡ true → n ≡ m
-number_is n m h = grind arith
-
-place_self : (p : Place) → same_place p p ≡ true
-place_self (at_project q) = same_number q
-place_self (at_package k) = same_number k
-
-place_is : (p q : Place) → same_place p q ≡ true → p ≡ q
-place_is (at_project q) (at_project r) h = ap at_project (number_is q r h)
-place_is (at_project q) (at_package k) h = cc h
-place_is (at_package k) (at_project q) h = cc h
-place_is (at_package k) (at_package j) h = ap at_package (number_is k j h)
+use Rattle.pn_shape.specs.Words.{AreLinks, HasNode, wishes_at, IsInWords}
+use Rattle.pn_walk.proofs.FilterLemmas.{in_filter, to_filter}
+use Rattle.pn_walk.proofs.GraphLemmas.{place_self}
+use Rattle.pn_shape.proofs.LinkLemmas.{place_is}
+use Rattle.pn_shape.proofs.ListLemmas.{place_in, at_place, get_from_map}
 
 -- a dependency of an edge, and the edge of a dependency
 record IsDepOf (who : Place) (links : List Link) (d : Dep) : Type 0 where

@@ -1,15 +1,17 @@
 -- A walk gives the graph.
 use Rattle.std.proofs.Common.{◌≡◌, ℕ, zero, suc, ◌+◌, List, [], ◌∷◌, ◌++◌, true, false, Option, Some, None, length, map, option_map, refl, sym, ap, ◌∙◌, subst, arith, append_assoc, inl, inr, if◌then◌else◌}
 use Rattle.std.specs.List.{All, Contains, slice_get}
-use Rattle.std.specs.Prelude.{cond, ◌==◌}
+use Rattle.std.specs.Prelude.{cond}
+use Rattle.std.proofs.lemmas.Bool.{eq-eqb}
 use Rattle.std.proofs.lemmas.Slice.Eq.{bytes_eq-Decides}
 use Rattle.std.proofs.lemmas.List.{map-append, append-nil}
-use Rattle.std.proofs.lemmas.List.Elements.{All-nil, All-cons, All-head, All-tail, All-append, All-push, All-map, All-weaker, All-contains, All-contains_itself, All-filter, filter-append, Contains-append_left, Contains-append_right, Contains-append_cases, Contains-push_cases}
+use Rattle.std.proofs.lemmas.List.Elements.{All-nil, All-cons, All-head, All-tail, All-append, All-push, All-map, All-weaker, All-contains, All-contains_itself, filter-append, Contains-append_left, Contains-append_right, Contains-append_cases, Contains-push_cases}
 use Rattle.pn_text.proofs.Members.{from_map, to_map}
 use Rattle.pn_walk.specs.Wants.{Id, same_id, Wish, Node, Aim, to_project, to_package, Place, at_project, at_package}
 use Rattle.pn_walk.specs.Walks.{Turn, Link, State, turn_by, turns_of, Lands, LandsAt, Moves, Walk, ends, goes, start, place_of, IsWalked, IsStopped, same_place, asked_by, asking, IsOfProject, Rounds, first, again, all_of}
 use Rattle.pn_walk.specs.Graphs.{id_of, turn_of, Reaches, direct, through, IsDistinct, IsAt, IsRight, IsGraph, IsAsked, by_project, by_package}
 use Rattle.pn_walk.specs.WalkLaws.{AreSettled}
+use Rattle.pn_walk.proofs.FilterLemmas.{in_filter, to_filter}
 
 pub same_id-is : (a b : Id) → same_id a b ≡ true → a ≡ b
 same_id-is a b h = (bytes_eq-Decides a b).0 h
@@ -46,7 +48,7 @@ at_more met added None to h = h
 at_more met added (Some (to_project q)) to h = h
 at_more met added (Some (to_package i)) to h = (h.0, h.1, subst (λ (l : List Id). slice_get l h.0 ≡ Some i) (sym (map-append id_of met added)) (get_front (map id_of met) (map id_of added) h.0 i h.2))
 
--- the place of an id is where it stands
+-- the place of an id is where it is
 pub place_there : (i : Id) (met : List Node) (k : ℕ) → place_of i met ≡ Some k → slice_get (map id_of met) k ≡ Some i
 place_there i [] k h = cc
 place_there i (n ∷ ns) k h = elim (same_id n.id i) as (λ b. same_id n.id i ≡ b → (if b then Some 0 else option_map suc (place_of i ns)) ≡ Some k → slice_get (n.id ∷ map id_of ns) k ≡ Some i) [
@@ -69,7 +71,7 @@ place_there i (n ∷ ns) k h = elim (same_id n.id i) as (λ b. same_id n.id i �
         let is : suc j ≡ k = cc in
         subst (λ (n : ℕ). slice_get (x ∷ ids) n ≡ Some i) is (f j refl)
 
--- an id without a place stands nowhere
+-- an id without a place is nowhere
 nowhere : (i : Id) (met : List Node) → place_of i met ≡ None → All (λ x. x ≡ i → ⊥) (map id_of met)
 nowhere i [] h = All-nil (λ x. x ≡ i → ⊥)
 nowhere i (n ∷ ns) h = elim (same_id n.id i) as (λ b. same_id n.id i ≡ b → (if b then Some 0 else option_map suc (place_of i ns)) ≡ None → All (λ x. x ≡ i → ⊥) (n.id ∷ map id_of ns)) [
@@ -172,28 +174,15 @@ landed leads node own met added (Some (to_package i)) to once reached h = landed
 pub both_asked : (who : Place) (xs ys : List Turn) → asked_by who (xs ++ ys) ≡ asked_by who xs ++ asked_by who ys
 both_asked who xs ys = filter-append (λ (e : Turn). same_place e.who who) xs ys
 
-same_number : (n : ℕ) → (n == n) ≡ true
-same_number n = grind arith
-
-place_self : (p : Place) → same_place p p ≡ true
-place_self (at_project q) = same_number q
-place_self (at_package k) = same_number k
+pub place_self : (p : Place) → same_place p p ≡ true
+place_self (at_project q) = eq-eqb q q refl
+place_self (at_package k) = eq-eqb k k refl
 
 keeps_own : (e : Turn) (xs : List Turn) → Contains xs e → Contains (asked_by e.who xs) e
-keeps_own e xs c = All-contains (λ (x : Turn). same_place x.who e.who ≡ true → Contains (asked_by e.who xs) x) xs e (all xs) c (place_self e.who) where
-  all : (xs : List Turn) → All (λ (x : Turn). same_place x.who e.who ≡ true → Contains (asked_by e.who xs) x) xs
-  all [] = All-nil (λ (x : Turn). same_place x.who e.who ≡ true → Contains [] x)
-  all (y ∷ ys) = elim (same_place y.who e.who) as (λ b. same_place y.who e.who ≡ b → All (λ (x : Turn). same_place x.who e.who ≡ true → Contains (cond b (y ∷ asked_by e.who ys) (asked_by e.who ys)) x) (y ∷ ys)) [
-    | true ↦ λ is. All-cons (λ (x : Turn). same_place x.who e.who ≡ true → Contains (y ∷ asked_by e.who ys) x) y ys (λ h. (0, omega arith, refl))
-        (All-weaker (λ (x : Turn). same_place x.who e.who ≡ true → Contains (asked_by e.who ys) x) (λ (x : Turn). same_place x.who e.who ≡ true → Contains (y ∷ asked_by e.who ys) x) (λ x f h. Contains-append_right (y ∷ []) (asked_by e.who ys) x (f h)) ys (all ys))
-    | false ↦ λ is. All-cons (λ (x : Turn). same_place x.who e.who ≡ true → Contains (asked_by e.who ys) x) y ys (λ h. absurd (true_false (sym h ∙ is))) (all ys)
-  ] refl
-    where
-      true_false : true ≡ false → ⊥
-      true_false h = cc h
+keeps_own e xs c = to_filter (λ (x : Turn). same_place x.who e.who) xs e c (place_self e.who)
 
 from_asked : (who : Place) (xs : List Turn) (e : Turn) → Contains (asked_by who xs) e → Contains xs e
-from_asked who xs e c = All-contains (Contains xs) (asked_by who xs) e (All-filter (λ (x : Turn). same_place x.who who) (Contains xs) xs (All-contains_itself xs)) c
+from_asked who xs e c = (in_filter (λ (x : Turn). same_place x.who who) xs e c).0
 
 -- an edge of one list is in another where its node asks for the same in both
 pub moved : (e : Turn) (xs ys : List Turn) → asked_by e.who xs ≡ asked_by e.who ys → Contains xs e → Contains ys e

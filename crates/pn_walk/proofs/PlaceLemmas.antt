@@ -13,7 +13,7 @@ fresh_head true o h = cc h
 fresh_head false None h = (refl, refl)
 fresh_head false (Some k) h = cc h
 
--- Where no package has the new one's id, its place is behind all, and the others keep theirs.
+-- Where no package has the new one's id, its place is after all, and the others keep theirs.
 pub place_more : (i : Id) (ns : List Node) (n : Node) → place_of n.id ns ≡ None → place_of i (ns ++ n ∷ []) ≡ (if bytes_eq n.id i then Some (length ns) else place_of i ns)
 place_more i [] n fresh = refl
 place_more i (m ∷ ns) n fresh =

@@ -14,7 +14,7 @@ use Rattle.pn_walk.specs.declared.fault.WalkFault.TheVariants.{Ways, Packages, M
 use Rattle.pn_walk.proofs.TookLemmas.{walk_on, refused_from}
 use Rattle.pn_walk.proofs.TookAllLemmas.{walk_from}
 
--- the edges up to a project, its own, and those behind it
+-- the edges up to a project, its own, and those after it
 pub starts_split : (j k : ℕ) (ps : List (List Wish)) (ws : List Wish) → k < length ps → ws ≡ get_or ps k ws → turns_from j ps ≡ turns_from j (take k ps) ++ (map (turn_by (at_project (j + k))) ws ++ turns_from (suc (j + k)) (drop (suc k) ps))
 starts_split j k [] ws h is = absurd (omega arith)
 starts_split j zero (p ∷ ps) ws h is =
@@ -93,7 +93,7 @@ more_first k ps ws h is =
     let z : 0 + k ≡ k = omega arith in
     starts_more 0 k ps ws h is ∙ ap (λ (n : ℕ). turns_from 0 (take k ps) ++ map (turn_by (at_project n)) ws) z
 
--- All edges are taken, or one is refused, behind those of the projects.
+-- All edges are taken, or one is refused, after those of the projects.
 pub stops_first : {F : Type 0} (leads : Wish → Option Aim → Type 0) (node : Node → Type 0) (lost : Wish → F → Type 0) (unread : Id → F → Type 0) (folders : List (List ℕ)) (own : List Turn) (q : Queue) (f : WalkFault F) → q.nodes.items ≡ [] → q.links.items ≡ [] → StopsIn leads node lost unread folders own q f → StopsSomewhere leads node lost unread folders (start own) f
 stops_first leads node lost unread folders own q f no_nodes no_links a =
     let T = turns_of (length q.nodes.items) a.took.added in
@@ -109,7 +109,7 @@ stops_first leads node lost unread folders own q f no_nodes no_links a =
       };
     }
 
--- a stop behind a walk
+-- a stop after a walk
 stopped_later : {F : Type 0} (leads leads' : Wish → Option Aim → Type 0) (node node' : Node → Type 0) (lost lost' : Wish → F → Type 0) (unread unread' : Id → F → Type 0) (folders : List (List ℕ)) (m s : State) (f : WalkFault F)
     → Keeps leads leads' node node' lost lost' unread unread' → Walk leads node m s → StopsSomewhere leads' node' lost' unread' folders m f → StopsSomewhere leads node lost unread folders s f
 stopped_later leads leads' node node' lost lost' unread unread' folders m s f k w a = record {

@@ -105,7 +105,7 @@ lands_from node node' f met None to added h = h
 lands_from node node' f met (Some (to_project q)) to added h = h
 lands_from node node' f met (Some (to_package i)) to added h = lands_at_from node node' f met i (place_of i met) to added h
 
--- what was taken behind a call
+-- what was taken after a call
 pub took_from : {F : Type 0} (leads leads' : Wish → Option Aim → Type 0) (node node' : Node → Type 0) (lost lost' : Wish → F → Type 0) (unread unread' : Id → F → Type 0) (e : Turn) (q s : Queue)
     → Keeps leads leads' node node' lost lost' unread unread' → Took leads' node' e q s → Took leads node e q s
 took_from leads leads' node node' lost lost' unread unread' e q s k t = record {
@@ -150,7 +150,7 @@ keeps_on l1 l2 l3 n1 n2 n3 o1 o2 o3 u1 u2 u3 a b = record {
 pub keeps_same : {F : Type 0} (l : Wish → Option Aim → Type 0) (n : Node → Type 0) (o : Wish → F → Type 0) (u : Id → F → Type 0) → Keeps l l n n o o u u
 keeps_same l n o u = record { aims = λ w x h. h; still = λ w x h. h; nodes = λ n h. h; losses = λ w f h. h; faults = λ i f h. h }
 
--- a step behind a walk
+-- a step after a walk
 pub walk_more : (leads : Wish → Option Aim → Type 0) (node : Node → Type 0) (m t s : State) → Walk leads node m s → Moves leads node m t → Walk leads node t s
 walk_more leads node m t _ (ends s e) v = goes s t (subst (λ (x : State). Moves leads node x t) (sym e) v) (ends t refl)
 walk_more leads node m t _ (goes s n u w) v = goes s n u (walk_more leads node m t n w v)

@@ -7,7 +7,7 @@ use pn_text::{Memory, PkgId, Text};
 use std::alloc::Global;
 use std::marker::Model;
 
-/// Wishes in byte order of aliases.
+/// Wishes, one after the other.
 #[derive(Drop)]
 pub struct Wishes {
     items: Vec<Wish>,
@@ -23,18 +23,21 @@ impl Model for Wishes {
 }
 
 impl Wishes {
+    /// These wishes.
     pub fn of(items: Vec<Wish>) -> Wishes
         ensures { result ≡ items.items }
     {
         Wishes { items }
     }
 
+    /// The wishes.
     pub fn as_slice(&self) -> &[Wish]
         ensures { result.now ≡ self.now }
     {
         self.items.as_slice()
     }
 
+    /// Equal wishes.
     pub fn copy(&self, alloc: Global) -> Result<Wishes, Memory>
         ensures { IfOk result (λ w. w ≡ self.now) }
     {

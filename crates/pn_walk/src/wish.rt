@@ -15,6 +15,7 @@ pub struct Wish {
 }
 
 impl Wish {
+    /// An equal wish.
     pub fn copy(&self, alloc: Global) -> Result<Wish, Memory>
         ensures { IfOk result (λ w. w ≡ self.now) }
     {
