@@ -7,6 +7,7 @@
 #![tactic(auto)]
 
 mod asked;
+mod built;
 mod face;
 mod fault;
 mod laws;
@@ -19,6 +20,7 @@ mod version;
 mod way;
 mod ways;
 
+pub use built::unbuilt_field;
 pub use fault::{ChoiceFault, RegistryLack};
 pub use laws::{folders_law, settled_law, short_law, words_law};
 pub use project::ProjectAt;

@@ -10,7 +10,7 @@ ghost use Rattle.pn_plain.specs.Given.{held_of, tag_place, choice_of, version_of
 ghost use Rattle.pn_choice.specs.Given.{held_by, held_as};
 
 use crate::asked::NamedWant;
-use pn_published::{Published, Tag, choose, parse_version};
+use pn_published::{Published, Tag, choose};
 use pn_spec::Want;
 use pn_text::{Memory, PkgId, PkgName, Text, VersionIx};
 use semver::Version;
@@ -71,20 +71,19 @@ fn held_versions(alloc: Global, held: &[PkgId], name: &PkgName) -> Result<Vec<Ve
 {
     let mut versions = Vec::new(alloc);
     for id in held {
-        put(alloc, &mut versions, id, name)?;
+        put(&mut versions, id, name)?;
     }
     Ok(versions)
 }
 
-fn put(alloc: Global, versions: &mut Vec<Version>, id: &PkgId, name: &PkgName) -> Result<(), Memory>
+fn put(versions: &mut Vec<Version>, id: &PkgId, name: &PkgName) -> Result<(), Memory>
     ensures { OnOk result (map parts_of versions.new.items ≡ map parts_of versions.old.items ++ held_as name.now id.now) }
 {
     if id.name().as_str() != name.as_str() {
         return Ok(());
     }
-    if let Some(version) = parse_version(alloc, id.version_text())? {
-        versions.push(version)?;
-    }
+    let version = id.version().clone()?;
+    versions.push(version)?;
     Ok(())
 }
 
