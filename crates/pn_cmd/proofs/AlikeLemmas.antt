@@ -12,7 +12,6 @@ use Rattle.pn_manifest.specs.Said.{Said}
 use Rattle.pn_graph.specs.declared.plain.Plain.{Plain}
 use Rattle.pn_plan.specs.Drawing.{is_within}
 use Rattle.pn_plan.specs.declared.planned.Planned.{Planned}
-use Rattle.pn_choice.specs.Graphs.{IsGraphOf}
 use Rattle.pn_choice.proofs.SettledLemmas.{same as same_graph}
 use Rattle.pn_layout.specs.Links.{Pair}
 use Rattle.pn_layout.specs.declared.packages.Package.{Package}

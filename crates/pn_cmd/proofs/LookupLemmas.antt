@@ -1,5 +1,5 @@
 -- What the folders of an installed project find.
-use Rattle.std.proofs.Common.{◌≡◌, ℕ, List, [], ◌++◌, codes, refl, sym, ap, ◌∙◌, subst, Option, Some, None, map}
+use Rattle.std.proofs.Common.{◌≡◌, List, [], ◌++◌, codes, refl, sym, ap, ◌∙◌, subst, Option, Some, None, map}
 use Rattle.std.specs.Prelude.{slice_get}
 use Rattle.std.specs.List.{Contains}
 use Rattle.std.proofs.lemmas.List.Sorted.{Contains-permutation}
@@ -23,7 +23,7 @@ use Rattle.pn_graph.specs.declared.links.Package.{Package as Found}
 use Rattle.pn_graph.specs.declared.links.Project.{Project}
 use Rattle.pn_graph.specs.declared.plain.Plain.{Plain}
 use Rattle.pn_choice.specs.Graphs.{IsGraphOf}
-use Rattle.pn_shape.specs.Shapes.{projects_from, deps_by}
+use Rattle.pn_shape.specs.Shapes.{deps_by}
 use Rattle.pn_shape.specs.Words.{AreLinks, HasNode}
 use Rattle.pn_choice.specs.Words.{HasWords}
 use Rattle.pn_choice.proofs.WordsLemmas.{words}

@@ -1,5 +1,5 @@
 -- Lemmas on the point of the project's manifest.
-use Rattle.std.proofs.Common.{◌≡◌, ◌≤◌, ℕ, List, subst, ap, ◌∙◌, Option, Some, None, Ok, Err, length}
+use Rattle.std.proofs.Common.{◌≡◌, ◌≤◌, ℕ, List, subst, Option, Some, None, Ok, Err, length}
 use Rattle.std.specs.Prelude.{Result, IfSome, IfOk, IfErr}
 use Rattle.serde_json.specs.Data.{Data}
 use Rattle.pn_text.specs.declared.limits.TheConstants.{PATH_LIMIT}

@@ -1,5 +1,5 @@
 -- What is known where all points are passed.
-use Rattle.std.proofs.Common.{◌≡◌, ◌∷◌, List, Option, Result, Ok, Err, refl, sym, ap, ◌∙◌, subst, true}
+use Rattle.std.proofs.Common.{◌≡◌, ◌∷◌, Option, Result, Ok, Err, refl, sym, ap, ◌∙◌, subst, true}
 use Rattle.std.specs.Prelude.{IfOk}
 use Rattle.pn_text.specs.Path.{Path}
 use Rattle.pn_fs.specs.Tree.{Tree}

@@ -1,5 +1,5 @@
 -- Lemmas on the points at which nothing is to stand.
-use Rattle.std.proofs.Common.{◌≡◌, ◌≢◌, ◌≤◌, Option, Some, None, Result, Ok, Err, refl, sym, ap, ◌∙◌, subst, length}
+use Rattle.std.proofs.Common.{◌≡◌, ◌≢◌, ◌≤◌, Option, Some, None, Result, Ok, Err, sym, ap, ◌∙◌, subst, length}
 use Rattle.std.specs.Prelude.{IfSome, IfErr, OnOk}
 use Rattle.pn_text.specs.declared.limits.TheConstants.{PATH_LIMIT}
 use Rattle.pn_text.specs.Path.{Path, path_text}

@@ -1,5 +1,5 @@
 // The point of the project's manifest.
-ghost use Rattle.std.specs.Prelude.{◌≡◌, ◌⊎◌, ◌≤◌, ◌∷◌, ℕ, List, length, IfOk, IfErr, IfSome, option_map};
+ghost use Rattle.std.specs.Prelude.{◌≡◌, ◌⊎◌, ◌≤◌, ◌∷◌, ℕ, List, length, IfOk, IfErr, IfSome};
 ghost use Rattle.pn_text.specs.declared.limits.TheConstants.{PATH_LIMIT};
 ghost use Rattle.pn_text.specs.Path.{path_text};
 ghost use Rattle.pn_fs.specs.Seen.{Seen, Taken, Keeps};
@@ -9,10 +9,11 @@ ghost use Rattle.pn_manifest.specs.Says.{said_of};
 ghost use Rattle.pn_cmd.specs.Names.{package_name};
 ghost use Rattle.pn_cmd.specs.World.{world};
 ghost use Rattle.pn_cmd.specs.Points.{Refuses};
-ghost use Rattle.pn_cmd.specs.Manifests.{NoManifest, Declares, IsText, FoundIn, BytesRefused, unbuilt_field};
+ghost use Rattle.pn_cmd.specs.Manifests.{NoManifest, Declares, IsText, FoundIn, BytesRefused};
 
 use crate::entry::{EntryFault, entry};
 use crate::status::{FileWhy, Status, Which};
+use pn_choice::unbuilt_field;
 use pn_fs::ReadFs;
 use pn_manifest::{Manifest, ManifestFault, ManifestWhy};
 use pn_read::{SmallFault, read_small};
@@ -85,19 +86,6 @@ fn not_yet(alloc: Global, field: &str) -> Status
         Ok(text) => Status::NotYet(text),
         Err(_) => Status::Memory,
     }
-}
-
-// The first field that stands and isn't built yet.
-fn unbuilt_field(manifest: &Manifest) -> Option<&str>
-    ensures { option_map (λ t. t.now) result ≡ unbuilt_field (said_of manifest.now) }
-{
-    if !manifest.overrides.is_empty() {
-        return Some("pnpm.overrides");
-    }
-    if !manifest.peers.is_empty() {
-        return Some("peerDependencies");
-    }
-    None
 }
 
 // The status for a refused manifest.

@@ -40,7 +40,7 @@ pub enum Status {
     RegistryFault,
     /// The output took the report in part or not at all.
     SinkFault,
-    /// The path, field or specifier is valid and isn't built yet.
+    /// The path, field, specifier or package's id is valid and isn't built yet.
     NotYet(Text),
 }
 
