@@ -1,5 +1,5 @@
 -- The end of the walk is a plain graph.
-use Rattle.std.proofs.Common.{◌≡◌, ◌<◌, ◌^◌, ℕ, Bool, List, Option, refl, sym, ap, ◌∙◌, subst, map, length}
+use Rattle.std.proofs.Common.{◌≡◌, ◌<◌, ◌^◌, ℕ, Bool, List, Option, refl, sym, ◌∙◌, subst, map, length}
 use Rattle.std.specs.List.{All, Contains}
 use Rattle.std.proofs.lemmas.List.{length-map}
 use Rattle.std.proofs.lemmas.List.Elements.{All-map, All-weaker}
@@ -12,7 +12,7 @@ use Rattle.pn_manifest.specs.declared.peers.Peer.{Peer}
 use Rattle.pn_graph.specs.declared.plain.Plain.{Plain}
 use Rattle.pn_walk.specs.Starts.{turns_from}
 use Rattle.pn_walk.specs.Wants.{Id}
-use Rattle.pn_walk.specs.Walks.{State, start, IsWalked}
+use Rattle.pn_walk.specs.Walks.{State, IsWalked}
 use Rattle.pn_walk.specs.declared.node.Node.{Node}
 use Rattle.pn_walk.specs.declared.wish.Wish.{Wish}
 use Rattle.pn_shape.specs.Fits.{IsFit}
@@ -23,7 +23,7 @@ use Rattle.pn_plain.specs.Seen.{a_project, a_package, one_map, seen, no_hook, no
 use Rattle.pn_plain.specs.SeenLaws.{IsOwn}
 use Rattle.pn_seen.proofs.AskedLemmas.{asked_law}
 use Rattle.pn_choice.specs.Given.{folder_of, asked_by, IsRisingProject, inputs_by, first}
-use Rattle.pn_choice.specs.Graphs.{IsGraphOf, folders_of}
+use Rattle.pn_choice.specs.Graphs.{IsGraphOf}
 use Rattle.pn_choice.specs.Shows.{IsNodeOf, LeadsIn}
 use Rattle.pn_choice.specs.Ways.{LeadsBy}
 use Rattle.pn_choice.specs.declared.project.ProjectAt.{ProjectAt}

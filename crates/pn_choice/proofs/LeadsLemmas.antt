@@ -1,5 +1,5 @@
 -- What wishes lead to, and why they lead nowhere, rests on no projects where none is asked for.
-use Rattle.std.proofs.Common.{◌≡◌, ℕ, Bool, false, List, [], Option, Some, None, refl, ap, ◌∙◌}
+use Rattle.std.proofs.Common.{◌≡◌, ℕ, Bool, false, List, Option, Some, None}
 use Rattle.pn_fs.specs.Tree.{Tree}
 use Rattle.pn_spec.specs.declared.want.Want.{Want}
 use Rattle.pn_spec.specs.declared.workspace.WsWant.{WsWant}
@@ -7,7 +7,7 @@ use Rattle.pn_walk.specs.Wants.{Id}
 use Rattle.pn_walk.specs.declared.wish.Wish.{Wish}
 use Rattle.pn_walk.specs.declared.wish.Aim.{Aim}
 use Rattle.pn_walk.specs.declared.node.Node.{Node}
-use Rattle.pn_walk.specs.Walks.{Turn, State, Moves, Walk, ends, goes}
+use Rattle.pn_walk.specs.Walks.{Turn, State, Walk, ends, goes}
 use Rattle.pn_plain.specs.Aims.{Chooses, Reads, ReadingLeads, LeadsBy as LeadsGiven}
 use Rattle.pn_plain.specs.Causes.{Cause, unsupported, unbuilt, no_catalog, no_project, two_projects, registry, no_version, packages, NoVersion, ReadingRefused, Refused, no_form, no_aim}
 use Rattle.pn_plain.specs.Given.{Given}

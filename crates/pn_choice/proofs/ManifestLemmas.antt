@@ -1,5 +1,5 @@
 -- What a package's manifest says, and why it isn't told.
-use Rattle.std.proofs.Common.{◌≡◌, ℕ, List, Option, Some, None}
+use Rattle.std.proofs.Common.{Option, Some, None}
 use Rattle.std.specs.Prelude.{IfSome}
 use Rattle.serde_json.specs.Data.{Data}
 use Rattle.pn_fs.specs.Tree.{Tree}

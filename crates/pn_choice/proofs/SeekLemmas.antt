@@ -7,7 +7,6 @@ use Rattle.pn_spec.specs.declared.want.Want.{Want}
 use Rattle.pn_walk.specs.Wants.{Id}
 use Rattle.pn_walk.specs.declared.wish.Aim.TheVariants.{Package as to_package}
 use Rattle.pn_walk.specs.declared.wish.Wish.{Wish}
-use Rattle.pn_published.specs.Shelves.{Shelf}
 use Rattle.pn_published.specs.Shown.{shelf_of}
 use Rattle.pn_published.specs.declared.published.Published.{Published}
 use Rattle.pn_plain.specs.Aims.{Chooses, Found, LeadsBy as LeadsGiven, id_at}

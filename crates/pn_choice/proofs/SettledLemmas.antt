@@ -1,5 +1,5 @@
 -- A tree settles the plain graph of what projects ask for, or one refusal.
-use Rattle.std.proofs.Common.{◌≡◌, ◌∷◌, ℕ, Bool, true, List, Option, Some, refl, sym, ap, ◌∙◌, subst}
+use Rattle.std.proofs.Common.{◌≡◌, ℕ, Bool, true, List, Option, Some, sym, ap, ◌∙◌, subst}
 use Rattle.std.proofs.Math.Bool.{Bool-set}
 use Rattle.pn_text.specs.declared.ids.Edge.{Edge}
 use Rattle.pn_text.specs.declared.index.ProjIx.{ProjIx}
@@ -8,7 +8,7 @@ use Rattle.pn_graph.specs.Graphs.{is_graph}
 use Rattle.pn_graph.specs.declared.links.Project.{Project}
 use Rattle.pn_graph.specs.declared.links.Package.{Package}
 use Rattle.pn_graph.specs.declared.plain.Plain.{Plain}
-use Rattle.pn_walk.specs.Edges.{asker, IsEdgeOf}
+use Rattle.pn_walk.specs.Edges.{asker}
 use Rattle.pn_walk.specs.Graphs.{IsGraph}
 use Rattle.pn_walk.specs.Walks.{State, Turn}
 use Rattle.pn_shape.specs.Shapes.{IsShape}
@@ -17,7 +17,7 @@ use Rattle.pn_plain.specs.Causes.{Cause, unsupported, unbuilt, registry, no_vers
 use Rattle.pn_plain.specs.Plains.{Inputs}
 use Rattle.pn_plain.specs.Seen.{no_hook, no_rules}
 use Rattle.pn_plain.proofs.PlainLemmas.{plain_graph, same_plain, plain_or_not, one_refusal, one_stop, one_edge}
-use Rattle.pn_choice.specs.Graphs.{IsPlainOf, IsUnplainOf, IsGraphOf, folders_of}
+use Rattle.pn_choice.specs.Graphs.{IsPlainOf, IsGraphOf, folders_of}
 use Rattle.pn_choice.specs.Refusals.{Stops, StopsAt, Unplain}
 use Rattle.pn_choice.specs.Shows.{Publishes, Unpublished, Manifests, Unread, LeadsIn, IsNodeOf}
 use Rattle.pn_choice.specs.declared.fault.RegistryLack.{RegistryLack}

@@ -1,21 +1,21 @@
 -- What a registry shows whose tree is told.
-use Rattle.std.proofs.Common.{◌≡◌, ◌<◌, ℕ, List, Option, Some, refl, sym, ap, ◌∙◌, subst, arith, length}
-use Rattle.pn_text.specs.declared.limits.TheConstants.{ID_LIMIT}
+use Rattle.std.proofs.Common.{◌≡◌, ◌<◌, ℕ, List, Some, refl, sym, ap, ◌∙◌, subst, arith}
+use Rattle.std.proofs.lemmas.Option.{none-some, same_Some}
 use Rattle.pn_fs.specs.Tree.{Tree}
 use Rattle.pn_manifest.specs.Fields.{said}
 use Rattle.pn_manifest.specs.Said.{Said}
 use Rattle.pn_registry.specs.Places.{manifest_path}
-use Rattle.pn_registry.proofs.ManifestLawLemmas.{text_once, not_wrong, one_wrong, not_long, long_there, one_length}
+use Rattle.pn_registry.proofs.ManifestLawLemmas.{text_once, not_wrong, one_wrong, not_long, long_there}
+use Rattle.pn_registry.proofs.Orders.{same_length}
 use Rattle.pn_published.specs.Shelves.{Shelf}
-use Rattle.pn_published.specs.declared.fault.PublishedFault.{PublishedFault}
 use Rattle.pn_published.specs.declared.fault.PublishedFault.TheVariants.{BadTags as FaultTags, Entries as FaultEntries}
 use Rattle.pn_published.proofs.OneShelf.{published}
 use Rattle.pn_walk.specs.Wants.{Id}
-use Rattle.pn_walk.specs.declared.node.Node.{Node}
 use Rattle.pn_plain.specs.Causes.{Shown}
 use Rattle.pn_plain.specs.Seen.{no_hook, no_rules}
 use Rattle.pn_plain.proofs.PlainLemmas.{AreRules, one_node}
-use Rattle.pn_choice.specs.Shows.{Publishes, Unpublished, HasManifest, IsBuilt, IsUnbuilt, overrides, peers, long, Manifests, Unread, IsNodeOf}
+use Rattle.pn_choice.specs.Built.{IsBuilt, IsUnbuilt, in_field, long}
+use Rattle.pn_choice.specs.Shows.{Publishes, Unpublished, HasManifest, Manifests, Unread, IsNodeOf}
 use Rattle.pn_choice.specs.declared.fault.RegistryLack.{RegistryLack}
 use Rattle.pn_choice.specs.declared.fault.RegistryLack.TheVariants.{BadTags, Entries, Wrong, TooLarge, Unbuilt}
 
@@ -51,27 +51,21 @@ short_long : {C : Type 0} (n : ℕ) → n < n → C
 short_long n h = absurd (omega (arith, h))
 
 one_unbuilt : (i : Id) (m : Said) (x y : List ℕ) → IsUnbuilt i m x → IsUnbuilt i m y → x ≡ y
-one_unbuilt i m x y (overrides a h) (overrides b k) = h ∙ sym k
-one_unbuilt i m x y (overrides a h) (peers b c k) = absurd (a b)
-one_unbuilt i m x y (overrides a h) (long b c d k) = absurd (a b)
-one_unbuilt i m x y (peers a b h) (overrides c k) = absurd (c a)
-one_unbuilt i m x y (peers a b h) (peers c d k) = h ∙ sym k
-one_unbuilt i m x y (peers a b h) (long c d e k) = absurd (b d)
-one_unbuilt i m x y (long a b c h) (overrides d k) = absurd (d a)
-one_unbuilt i m x y (long a b c h) (peers d e k) = absurd (e b)
-one_unbuilt i m x y (long a b c h) (long d e f k) = h ∙ sym k
+one_unbuilt i m x y (in_field h) (in_field k) = same_Some x y (sym h ∙ k)
+one_unbuilt i m x y (in_field h) (long n d k) = absurd (none-some x (sym n ∙ h))
+one_unbuilt i m x y (long n d h) (in_field k) = absurd (none-some y (sym n ∙ k))
+one_unbuilt i m x y (long n d h) (long o e k) = h ∙ sym k
 
 not_unbuilt : (i : Id) (m : Said) (x : List ℕ) → IsBuilt i m → IsUnbuilt i m x → ⊥
-not_unbuilt i m x b (overrides a h) = a b.overrides
-not_unbuilt i m x b (peers a c h) = c b.peers
-not_unbuilt i m x b (long a c d h) = absurd (omega (arith, b.short, d))
+not_unbuilt i m x b (in_field h) = none-some x (sym b.fields ∙ h)
+not_unbuilt i m x b (long n d h) = absurd (omega (arith, b.short, d))
 
 one_lack : (t : Tree) (i : Id) (x y : RegistryLack) → Unread (Some t) i x → Unread (Some t) i y → x ≡ y
 one_lack t i (Wrong j v) (Wrong k w) a b = ap (λ (l : Id). Wrong l v) (a.0 ∙ sym b.0) ∙ ap (Wrong k) (one_wrong i (t (manifest_path i)) v w a.1 b.1)
 one_lack t i (Wrong j v) (TooLarge k n) a b = absurd (long_there i (t (manifest_path i)) n v b.1 b.2 a.1)
 one_lack t i (Wrong j v) (Unbuilt x) a b = absurd (not_wrong i (t (manifest_path i)) b.1.value v b.1.text b.1.right a.1)
 one_lack t i (TooLarge j m) (Wrong k w) a b = absurd (long_there i (t (manifest_path i)) m w a.1 a.2 b.1)
-one_lack t i (TooLarge j m) (TooLarge k n) a b = ap (λ (l : Id). TooLarge l m) (a.0 ∙ sym b.0) ∙ ap (TooLarge k) (one_length (t (manifest_path i)) m n a.2 b.2)
+one_lack t i (TooLarge j m) (TooLarge k n) a b = ap (λ (l : Id). TooLarge l m) (a.0 ∙ sym b.0) ∙ ap (TooLarge k) (same_length (t (manifest_path i)) m n a.2 b.2)
 one_lack t i (TooLarge j m) (Unbuilt x) a b = absurd (not_long (t (manifest_path i)) b.1.value m b.1.text a.1 a.2)
 one_lack t i (Unbuilt x) (Wrong k w) a b = absurd (not_wrong i (t (manifest_path i)) a.1.value w a.1.text a.1.right b.1)
 one_lack t i (Unbuilt x) (TooLarge k n) a b = absurd (not_long (t (manifest_path i)) a.1.value n a.1.text b.1 b.2)

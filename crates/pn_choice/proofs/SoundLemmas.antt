@@ -1,5 +1,5 @@
 -- What projects and packages ask for is in order.
-use Rattle.std.proofs.Common.{◌≡◌, ℕ, Bool, true, false, List, [], Option, Some, None, refl, sym, ap, ◌∙◌, subst, codes}
+use Rattle.std.proofs.Common.{◌≡◌, ℕ, Bool, true, false, List, Option, Some, None, refl, sym, ap, ◌∙◌, codes}
 use Rattle.std.specs.Str.{bytes_eq}
 use Rattle.std.proofs.lemmas.Slice.Eq.{bytes_eq-Decides}
 use Rattle.pn_text.specs.Ids.{id_name}
@@ -9,9 +9,7 @@ use Rattle.pn_manifest.specs.Said.{Said}
 use Rattle.pn_registry.specs.Package.{states, unless}
 use Rattle.pn_walk.specs.Wants.{Id}
 use Rattle.pn_walk.specs.declared.wish.Wish.{Wish}
-use Rattle.pn_walk.specs.declared.wish.Aim.{Aim}
-use Rattle.pn_walk.specs.declared.node.Node.{Node}
-use Rattle.pn_walk.specs.declared.wish.Aim.TheVariants.{Project as to_project, Package as to_package}
+use Rattle.pn_walk.specs.declared.wish.Aim.TheVariants.{Project as to_project}
 use Rattle.semver.specs.Parse.{Parts}
 use Rattle.pn_plain.specs.Aims.{Found, ReadingLeads, LeadsBy as LeadsGiven}
 use Rattle.pn_plain.specs.Readings.{Reading, of_package, of_project, no_entry, not_built}

@@ -1,5 +1,5 @@
 -- Where the walk stops, the inputs have no plain graph.
-use Rattle.std.proofs.Common.{◌≡◌, ◌⊎◌, ℕ, Bool, List, Option, Some, inl, inr, map, subst, sym}
+use Rattle.std.proofs.Common.{◌⊎◌, ℕ, Bool, List, Option, Some, inl, inr, map, subst, sym}
 use Rattle.pn_text.specs.declared.ids.Edge.{Edge}
 use Rattle.pn_fs.specs.Tree.{Tree}
 use Rattle.pn_fs.specs.Seen.{Seen}
@@ -9,7 +9,7 @@ use Rattle.pn_walk.specs.Starts.{turns_from}
 use Rattle.pn_walk.specs.Wants.{Id}
 use Rattle.pn_walk.specs.declared.node.Node.{Node}
 use Rattle.pn_walk.specs.declared.wish.Aim.TheVariants.{Package as to_package}
-use Rattle.pn_walk.specs.Walks.{Turn, State, start, IsStopped}
+use Rattle.pn_walk.specs.Walks.{Turn, State, IsStopped}
 use Rattle.pn_walk.specs.declared.fault.WalkFault.{WalkFault}
 use Rattle.pn_walk.specs.declared.fault.WalkFault.TheVariants.{Ways, Packages, Memory as NoWalkMemory}
 use Rattle.pn_plain.specs.Causes.{Cause, unsupported, unbuilt, registry, no_version, packages, Refused, not_met}

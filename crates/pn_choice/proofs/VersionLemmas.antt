@@ -1,5 +1,5 @@
 -- Ids of versions, and the versions that are held.
-use Rattle.std.proofs.Common.{◌≡◌, ◌++◌, ◌∷◌, ◌<◌, ℕ, zero, suc, Bool, true, false, ltb, length, get_or, arith, List, [], Option, Some, None, Ok, Err, map, refl, sym, ap, ◌∙◌, subst, if◌then◌else◌}
+use Rattle.std.proofs.Common.{◌≡◌, ◌++◌, ◌∷◌, ◌<◌, ℕ, zero, suc, Bool, true, false, ltb, length, get_or, arith, List, [], Option, Some, None, Ok, Err, map, refl, sym, ap, ◌∙◌, if◌then◌else◌}
 use Rattle.std.specs.Prelude.{Result, is_some, not, option_map, slice_get}
 use Rattle.std.specs.List.{All}
 use Rattle.std.specs.Str.{bytes_eq}
@@ -10,7 +10,6 @@ use Rattle.std.proofs.lemmas.Option.{slice_get-map, slice_get_past}
 use Rattle.semver.specs.Identifiers.{parts_of, parts_text as text_of_parts}
 use Rattle.semver.specs.Parse.{Parts, version_parts}
 use Rattle.semver.specs.declared.Version.{Version}
-use Rattle.semver.specs.declared.error.Error.{Error}
 use Rattle.semver.proofs.Grammar.{version_parts-sound}
 use Rattle.pn_text.specs.Ids.{id_text, id_of, id_name, id_version, ok_of, parts_text, is_version}
 use Rattle.pn_published.specs.Versions.{IsParsed, AreParsed}
@@ -69,7 +68,7 @@ held_other n i e = held_unless n (id_name i) (parts_text (id_version i)) false e
 pub held_same : (n : List ℕ) (i : Id) (v : Parts) → bytes_eq (id_name i) n ≡ true → parts_text (id_version i) ≡ Some v → held_as n i ≡ v ∷ []
 held_same n i v e is = ap (λ (o : Option Parts). held_of n (held_before (id_name i) o [])) is ∙ ap (λ (c : Bool). if c then v ∷ [] else []) e
 
--- what is put in behind the versions that were there
+-- what is put in after the versions that were there
 pub put_other : (vs : List Parts) (n : List ℕ) (i : Id) → true ≡ not (bytes_eq (id_name i) n) → vs ≡ vs ++ held_as n i
 put_other vs n i h = sym (append-nil vs) ∙ ap (λ (l : List Parts). vs ++ l) (sym (held_other n i (unequal (bytes_eq (id_name i) n) h)))
   where

@@ -1,15 +1,15 @@
 -- The plain graph of a registry in the words of wishes.
-use Rattle.std.proofs.Common.{◌≡◌, ◌≤◌, ℕ, suc, List, [], ◌∷◌, ◌++◌, Bool, Option, Some, refl, sym, ap, ◌∙◌, subst, length, map, inl, inr}
+use Rattle.std.proofs.Common.{◌≡◌, ◌≤◌, ℕ, suc, List, Bool, Option, Some, sym, ap, ◌∙◌, subst, length, map, inl, inr}
 use Rattle.std.specs.List.{All, Contains}
 use Rattle.std.proofs.lemmas.List.Elements.{All-nil, All-append, All-map, All-contains, All-contains_itself, All-weaker}
 use Rattle.pn_text.specs.declared.index.ProjIx.{ProjIx}
 use Rattle.pn_text.specs.declared.limits.TheConstants.{ID_LIMIT}
 use Rattle.pn_text.proofs.Members.{none_in, in_cons, here, there}
-use Rattle.pn_fs.specs.Tree.{Tree, IsTree, folder}
+use Rattle.pn_fs.specs.Tree.{Tree, folder}
 use Rattle.pn_registry.specs.Places.{package_folder}
 use Rattle.pn_graph.specs.declared.links.Package.{Package}
 use Rattle.pn_graph.specs.declared.plain.Plain.{Plain}
-use Rattle.pn_walk.specs.Walks.{Turn, Link, State, turn_by, start, IsOfProject}
+use Rattle.pn_walk.specs.Walks.{Turn, Link, turn_by, start, IsOfProject}
 use Rattle.pn_walk.specs.WalkLaws.{AreSettled}
 use Rattle.pn_walk.specs.declared.node.Node.{Node}
 use Rattle.pn_walk.specs.declared.wish.Place.TheVariants.{Project as at_project}
@@ -19,12 +19,12 @@ use Rattle.pn_plain.specs.Plains.{Project, Inputs, given_by, AreStarts, no_more,
 use Rattle.pn_plain.specs.Seen.{no_hook, no_rules, wishes_of, counted}
 use Rattle.pn_plain.proofs.AimLemmas.{settled}
 use Rattle.pn_plain.proofs.PlainLemmas.{one_start}
-use Rattle.pn_shape.specs.Shapes.{IsPackageOf, ArePackagesFrom, all_met, next}
+use Rattle.pn_shape.specs.Shapes.{ArePackagesFrom, all_met, next}
 use Rattle.pn_shape.specs.Words.{IsInWords}
 use Rattle.pn_shape.proofs.WordsLemmas.{words as shape_words}
 use Rattle.pn_choice.specs.Graphs.{IsGraphOf, folders_of}
-use Rattle.pn_choice.specs.Shows.{Publishes, Unpublished, Unread, LeadsIn, IsNodeOf, AreStartsOf}
-use Rattle.pn_choice.specs.Words.{HasWords, WordsLaw, FoldersLaw, ShortLaw}
+use Rattle.pn_choice.specs.Shows.{Publishes, Unpublished, Unread, LeadsIn, IsNodeOf}
+use Rattle.pn_choice.specs.Words.{WordsLaw, FoldersLaw, ShortLaw}
 use Rattle.pn_choice.proofs.SettledLemmas.{graph}
 use Rattle.pn_choice.proofs.ShownLemmas.{rules, shown}
 

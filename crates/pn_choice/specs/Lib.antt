@@ -1,3 +1,4 @@
+pub mod Built
 pub mod Shows
 pub mod Cached
 pub mod Given

@@ -1,7 +1,7 @@
 -- What a registry shows where its tree is told. Of one that isn't told it says what each tree would show.
-use Rattle.std.specs.Prelude.{◌≡◌, ◌≢◌, ◌≤◌, ◌<◌, ℕ, List, [], length, codes, Option, Some, None, IfSome}
+use Rattle.std.specs.Prelude.{◌≡◌, ◌<◌, ℕ, List, Option, Some, None, IfSome}
 use Rattle.serde_json.specs.Data.{Data}
-use Rattle.pn_text.specs.declared.limits.TheConstants.{ID_LIMIT, TEXT_LIMIT}
+use Rattle.pn_text.specs.declared.limits.TheConstants.{TEXT_LIMIT}
 use Rattle.pn_text.specs.Name.{name_path}
 use Rattle.pn_fs.specs.Tree.{Tree}
 use Rattle.pn_read.specs.Small.{IsFileOf}
@@ -19,6 +19,7 @@ use Rattle.pn_walk.specs.Walks.{Turn}
 use Rattle.pn_plain.specs.Aims.{Leads}
 use Rattle.pn_plain.specs.Plains.{Inputs, given_by, IsNode, AreStarts}
 use Rattle.pn_plain.specs.Seen.{no_hook, no_rules}
+use Rattle.pn_choice.specs.Built.{IsBuilt, IsUnbuilt}
 use Rattle.pn_choice.specs.declared.fault.RegistryLack.{RegistryLack}
 use Rattle.pn_choice.specs.declared.fault.RegistryLack.TheVariants.{BadTags, Entries, Wrong, TooLarge, Unbuilt}
 
@@ -42,18 +43,6 @@ pub record HasManifest (r : Option Tree) (i : Id) (m : Said) : Type 0 where
   pub right : first_wrong_of i value ≡ None
   pub says : m ≡ said value
   pub rising : IsRisingSaid m
-
--- All that the package needs is built.
-pub record IsBuilt (i : Id) (m : Said) : Type 0 where
-  pub overrides : m.overrides ≡ []
-  pub peers : m.peers ≡ []
-  pub short : length i ≤ ID_LIMIT
-
--- The first that isn't built is shown by this text.
-pub data IsUnbuilt (i : Id) (m : Said) (text : List ℕ) : Type 0 where
-  overrides : m.overrides ≢ [] → text ≡ codes "pnpm.overrides" → IsUnbuilt i m text
-  peers : m.overrides ≡ [] → m.peers ≢ [] → text ≡ codes "peerDependencies" → IsUnbuilt i m text
-  long : m.overrides ≡ [] → m.peers ≡ [] → ID_LIMIT < length i → text ≡ i → IsUnbuilt i m text
 
 -- what the manifest of a package says, where all of it is built
 pub record Manifests (r : Option Tree) (i : Id) (m : Said) : Type 0 where

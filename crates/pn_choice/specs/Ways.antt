@@ -15,7 +15,8 @@ use Rattle.pn_plain.specs.Aims.{Leads, Reads, Chooses, id_at}
 use Rattle.pn_plain.specs.Causes.{Cause, unsupported, unbuilt, registry, no_version, ReadingRefused}
 use Rattle.pn_plain.specs.Readings.{Reading, not_built}
 use Rattle.pn_choice.specs.Given.{given_of}
-use Rattle.pn_choice.specs.Shows.{Publishes, Unpublished, Unread, IsUnbuilt}
+use Rattle.pn_choice.specs.Built.{IsUnbuilt}
+use Rattle.pn_choice.specs.Shows.{Publishes, Unpublished, Unread}
 use Rattle.pn_choice.specs.declared.fault.RegistryLack.{RegistryLack}
 use Rattle.pn_choice.specs.declared.fault.RegistryLack.TheVariants.{BadTags as LackTags, Entries as LackEntries, Wrong as LackManifest, TooLarge as LackText, Unbuilt as LackUnbuilt}
 use Rattle.pn_choice.specs.declared.way.WayFault.{WayFault}

@@ -1,5 +1,5 @@
 -- The plain graph of a registry whose tree is told, in the words of wishes.
-use Rattle.std.specs.Prelude.{◌≡◌, ◌≤◌, ℕ, List, length, Option, Some}
+use Rattle.std.specs.Prelude.{◌≡◌, ◌≤◌, List, length, Option, Some}
 use Rattle.std.specs.List.{Contains}
 use Rattle.pn_text.specs.declared.index.ProjIx.{ProjIx}
 use Rattle.pn_text.specs.declared.limits.TheConstants.{ID_LIMIT}

@@ -1,8 +1,6 @@
 // What wishes ask for.
-ghost use Rattle.std.specs.Prelude.{◌≡◌, List, IfOk, IfErr};
+ghost use Rattle.std.specs.Prelude.{◌≡◌, IfOk, IfErr};
 ghost use Rattle.pn_plain.specs.Readings.{of_package};
-ghost use Rattle.pn_walk.specs.Wants.{Id};
-ghost use Rattle.pn_choice.specs.Given.{given_of};
 ghost use Rattle.pn_choice.specs.Ways.{ReadsAs, IsUnasked};
 
 use crate::way::WayFault;

@@ -1,5 +1,5 @@
 // What packages and projects ask for.
-ghost use Rattle.std.specs.Prelude.{◌≡◌, Option, IfOk, OnOk, map};
+ghost use Rattle.std.specs.Prelude.{◌≡◌, Option, IfOk, map};
 ghost use Rattle.pn_fs.specs.Tree.{Tree};
 ghost use Rattle.pn_manifest.specs.Says.{said_of};
 ghost use Rattle.pn_walk.specs.Starts.{asked_of, folders_of};

@@ -7,8 +7,10 @@
 #![tactic(auto)]
 
 mod asked;
+mod built;
 mod face;
 mod fault;
+mod known;
 mod laws;
 mod package;
 mod project;
@@ -19,7 +21,9 @@ mod version;
 mod way;
 mod ways;
 
+pub use built::unbuilt_field;
 pub use fault::{ChoiceFault, RegistryLack};
+pub use known::Known;
 pub use laws::{folders_law, settled_law, short_law, words_law};
 pub use project::ProjectAt;
 pub use sources::{Sources, no_shelves};

@@ -1,11 +1,12 @@
 // Packages by their manifests.
-ghost use Rattle.std.specs.Prelude.{◌≡◌, ◌⊎◌, ℕ, List, Option, IfOk, OnOk, IfErr};
+ghost use Rattle.std.specs.Prelude.{◌≡◌, ◌⊎◌, IfOk, OnOk, IfErr};
 ghost use Rattle.pn_fs.specs.Seen.{Keeps};
-ghost use Rattle.pn_fs.specs.Tree.{Tree};
 ghost use Rattle.pn_manifest.specs.Says.{said_of};
-ghost use Rattle.pn_choice.specs.Shows.{HasManifest, Manifests, IsNodeOf, IsBuilt};
+ghost use Rattle.pn_choice.specs.Built.{IsBuilt};
+ghost use Rattle.pn_choice.specs.Shows.{HasManifest, IsNodeOf};
 ghost use Rattle.pn_choice.specs.Ways.{IsUntold, IsUnbuiltIn, Broke};
 
+use crate::built::unbuilt_field;
 use crate::face::face;
 use crate::fault::RegistryLack;
 use crate::way::WayFault;
@@ -25,10 +26,9 @@ pub fn package<R: ReadFs>(alloc: Global, registry: &mut R, id: &PkgId) -> Result
     ensures broke { IfErr result (Broke (R.seen registry.old) (R.seen registry.new)) }
 {
     let manifest = read(alloc, registry, id)?;
-    match refuse_unbuilt(alloc, id, &manifest) {
-        Ok(()) => Ok(face(alloc, id, &manifest)?),
-        Err(fault) => Err(fault),
-    }
+    refuse_unbuilt(alloc, id, &manifest)?;
+    let node = face(alloc, id, &manifest)?;
+    Ok(node)
 }
 
 // What the manifest of a package says.
@@ -52,11 +52,8 @@ fn refuse_unbuilt(alloc: Global, id: &PkgId, manifest: &Manifest) -> Result<(), 
     ensures built { OnOk result (IsBuilt id.now (said_of manifest.now)) }
     ensures unbuilt { IfErr result (IsUnbuiltIn id.now (said_of manifest.now)) }
 {
-    if !manifest.overrides.is_empty() {
-        return Err(unbuilt(alloc, "pnpm.overrides"));
-    }
-    if !manifest.peers.is_empty() {
-        return Err(unbuilt(alloc, "peerDependencies"));
+    if let Some(field) = unbuilt_field(manifest) {
+        return Err(unbuilt(alloc, field));
     }
     if !id.is_short() {
         return Err(unbuilt(alloc, id.as_str()));

@@ -4,20 +4,25 @@ use pn_text::Memory;
 use std::alloc::AllocFailed;
 use thiserror::Error;
 
-/// Why a wish leads nowhere, or a package isn't told: a specifier that has no form, or one that isn't built; no version that
-/// satisfies it; what the registry lacks; a failed call; no memory.
+/// Why a wish leads nowhere, or a package isn't known.
 #[derive(Debug, Drop, Error)]
 pub enum WayFault {
+    /// The specifier has none of the forms.
     #[error("the specifier has no form")]
     Unsupported,
+    /// The specifier's form isn't built yet.
     #[error("the specifier isn't built yet")]
     Unbuilt,
+    /// No published version is one that the specifier asks for.
     #[error("there is no version")]
     NoVersion,
+    /// The registry lacks what is asked for.
     #[error("{0}")]
     Registry(RegistryLack),
+    /// A call of the registry failed.
     #[error("a call failed")]
     Fault,
+    /// An allocation failed.
     #[error("out of memory")]
     Memory,
 }

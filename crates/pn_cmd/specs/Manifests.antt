@@ -1,5 +1,5 @@
 -- The point of the project's manifest.
-use Rattle.std.specs.Prelude.{◌≡◌, ◌<◌, ◌≤◌, ℕ, List, [], ◌∷◌, length, Option, Some, None, IfSome, codes}
+use Rattle.std.specs.Prelude.{◌≡◌, ◌<◌, ◌≤◌, ℕ, List, length, Option, Some, None, IfSome}
 use Rattle.serde_json.specs.Data.{Data}
 use Rattle.pn_text.specs.declared.limits.TheConstants.{PATH_LIMIT, TEXT_LIMIT}
 use Rattle.pn_text.specs.Path.{Path, path_text}
@@ -13,6 +13,7 @@ use Rattle.pn_manifest.specs.declared.manifest.Manifest.{Manifest}
 use Rattle.pn_read.specs.Small.{IsNoFile, IsFileOf}
 use Rattle.pn_manifest.specs.declared.fault.ManifestWhy.{ManifestWhy}
 use Rattle.pn_manifest.specs.declared.fault.ManifestWhy.TheVariants.{Missing, NotJson, BadField}
+use Rattle.pn_choice.specs.Built.{unbuilt_field}
 use Rattle.pn_cmd.specs.declared.status.FileWhy.TheVariants.{Manifest as of_manifest}
 use Rattle.pn_cmd.specs.declared.status.Which.TheVariants.{Text, Path as PathLength}
 use Rattle.pn_cmd.specs.declared.status.Status.{Status}
@@ -37,19 +38,7 @@ IsWrong e Missing = IsNoFile e
 IsWrong e NotJson = (bytes : List ℕ) × IsText e bytes × ((d : Data) → IsObjectText bytes d → ⊥)
 IsWrong e (BadField f k) = (bytes : List ℕ) × (d : Data) × IsText e bytes × IsObjectText bytes d × (first_wrong d ≡ Some (f, k))
 
-abbrev pub or_else : {A : Type 0} → Option A → Option A → Option A
-or_else (Some a) o = Some a
-or_else None o = o
-
-abbrev pub if_some : {A : Type 0} → List A → List ℕ → Option (List ℕ)
-if_some [] text = None
-if_some (x ∷ xs) text = Some text
-
--- the first field that stands and isn't built yet
-abbrev pub unbuilt_field : Said → Option (List ℕ)
-unbuilt_field m = or_else (if_some m.overrides (codes "pnpm.overrides")) (if_some m.peers (codes "peerDependencies"))
-
--- the first field of the project's manifest that stands and isn't built yet
+-- the first field of the project's manifest that isn't built yet
 abbrev pub project_later : Data → Option (List ℕ)
 project_later d = unbuilt_field (said d)
 

@@ -20,7 +20,11 @@ use crate::standing::nothing_stands;
 use crate::status::Status;
 use crate::store::default_store;
 use crate::words::is_install;
+<<<<<<< HEAD
 use crate::workspace::workspace;
+=======
+use pn_collect::Collected;
+>>>>>>> 07bf109dd3435664899aac61dbff56331736b611
 use pn_fs::ReadFs;
 use pn_graph::Plain;
 use pn_manifest::Manifest;
@@ -134,11 +138,11 @@ fn check_tree<P: ReadFs, R: ReadFs>(
         Ok(modules) => modules,
         Err(status) => return Err(status),
     };
-    let packages = match packages(alloc, plain, registry) {
-        Ok(packages) => packages,
+    let Collected { direct, packages } = match packages(alloc, plain, registry) {
+        Ok(collected) => collected,
         Err(status) => return Err(status),
     };
-    match plan(alloc, place, &modules, plain, packages.as_slice()) {
+    match plan(alloc, place, &modules, &direct, packages.as_slice()) {
         Ok(plan) => Ok(Ready { packages, plan }),
         Err(status) => Err(status),
     }

@@ -1,5 +1,9 @@
 // The point of the project's manifest.
+<<<<<<< HEAD
 ghost use Rattle.std.specs.Prelude.{◌≡◌, ◌≤◌, ◌∷◌, ℕ, List, length, IfOk, IfErr, IfSome, option_map};
+=======
+ghost use Rattle.std.specs.Prelude.{◌≡◌, ◌⊎◌, ◌≤◌, ◌∷◌, ℕ, List, length, IfOk, IfErr, IfSome};
+>>>>>>> 07bf109dd3435664899aac61dbff56331736b611
 ghost use Rattle.pn_text.specs.declared.limits.TheConstants.{PATH_LIMIT};
 ghost use Rattle.pn_text.specs.Path.{path_text};
 ghost use Rattle.pn_fs.specs.Seen.{Seen, Taken, Keeps};
@@ -9,11 +13,15 @@ ghost use Rattle.pn_manifest.specs.Says.{said_of};
 ghost use Rattle.pn_cmd.specs.Names.{package_name};
 ghost use Rattle.pn_cmd.specs.World.{world};
 ghost use Rattle.pn_cmd.specs.Points.{Refuses};
-ghost use Rattle.pn_cmd.specs.Manifests.{NoManifest, Declares, IsText, FoundIn, BytesRefused, unbuilt_field};
+ghost use Rattle.pn_cmd.specs.Manifests.{NoManifest, Declares, IsText, FoundIn, BytesRefused};
 
 use crate::entry::{EntryFault, entry};
 use crate::status::{FileWhy, Status, Which};
+<<<<<<< HEAD
 use crate::workspace::not_yet;
+=======
+use pn_choice::unbuilt_field;
+>>>>>>> 07bf109dd3435664899aac61dbff56331736b611
 use pn_fs::ReadFs;
 use pn_manifest::{Manifest, ManifestFault, ManifestWhy};
 use pn_read::{SmallFault, read_small};
@@ -78,6 +86,7 @@ fn parse(alloc: Global, path: &AbsPath, bytes: &[u8]) -> Result<Manifest, Status
     }
 }
 
+<<<<<<< HEAD
 // The first field that stands and isn't built yet.
 fn unbuilt_field(manifest: &Manifest) -> Option<&str>
     ensures { option_map (λ t. t.now) result ≡ unbuilt_field (said_of manifest.now) }
@@ -89,6 +98,16 @@ fn unbuilt_field(manifest: &Manifest) -> Option<&str>
         return Some("peerDependencies");
     }
     None
+=======
+// The status for a field that isn't built yet.
+fn not_yet(alloc: Global, field: &str) -> Status
+    ensures { (result ≡ Status.NotYet field.now) ⊎ (result ≡ Status.Memory) }
+{
+    match Text::of(alloc, field) {
+        Ok(text) => Status::NotYet(text),
+        Err(_) => Status::Memory,
+    }
+>>>>>>> 07bf109dd3435664899aac61dbff56331736b611
 }
 
 // The status for a refused manifest.

@@ -1,6 +1,7 @@
 // What is written, and what is reported of it.
-ghost use Rattle.std.specs.Prelude.{◌≡◌, ◌∷◌, IfOk, IfErr, string_bytes};
+ghost use Rattle.std.specs.Prelude.{◌≡◌, IfOk, IfErr, string_bytes};
 ghost use Rattle.pn_manifest.specs.Said.{Said};
+ghost use Rattle.pn_graph.specs.declared.plain.Plain.{Plain};
 ghost use Rattle.pn_layout.specs.Sound.{AreSound, AreSoundLinks};
 ghost use Rattle.pn_collect.specs.Outline.{direct_of};
 ghost use Rattle.pn_cmd.specs.World.{World};
@@ -11,39 +12,33 @@ ghost use Rattle.pn_cmd.specs.Plans.{TooLong, IsPlanned};
 ghost use Rattle.pn_cmd.specs.Reports.{report_of};
 
 use crate::status::{Status, Which};
-use pn_collect::direct;
-use pn_graph::Plain;
-use pn_layout::{LayoutFault, Package, layout};
+use pn_layout::{LayoutFault, Links, Package, layout};
 use pn_plan::PlannedTree;
 use pn_text::AbsPath;
 use std::alloc::{AllocError, Global};
 
-/// The tree that the packages make in the managed folder of `place`.
+/// The tree that the packages make in the managed folder of `place`, where the project has these links.
 pub fn plan(
     alloc: Global,
     place: &AbsPath,
     modules: &AbsPath,
-    plain: &Plain,
+    direct: &Links,
     packages: &[Package],
 ) -> Result<PlannedTree, Status>
     requires modules { modules.now ≡ modules_path place.now }
-    requires direct { AreSoundLinks (direct_of plain.now) }
+    requires direct { AreSoundLinks direct.now }
     requires sound { AreSound packages.now }
-    ensures planned { (said : Said) → IfOk result (IsPlanned (sources_of place.now said plain.now packages.now)) }
-    ensures refused { (said : Said) (w : World) → IfErr result (Refuses (TooLong (sources_of place.now said plain.now packages.now)) w w) }
+    ensures planned { (said : Said) (plain : Plain) → direct.now ≡ direct_of plain → IfOk result (IsPlanned (sources_of place.now said plain packages.now)) }
+    ensures refused { (said : Said) (plain : Plain) (w : World) → direct.now ≡ direct_of plain → IfErr result (Refuses (TooLong (sources_of place.now said plain packages.now)) w w) }
 {
-    let direct = match direct(alloc, plain) {
-        Ok(direct) => direct,
-        Err(_) => return Err(Status::Memory),
-    };
-    match layout(alloc, modules, &direct, packages) {
+    match layout(alloc, modules, direct, packages) {
         Ok(plan) => Ok(plan),
         Err(LayoutFault::TooLong(length)) => Err(Status::Limit(Which::Path, length)),
         Err(LayoutFault::Memory) => Err(Status::Memory),
     }
 }
 
-/// The report of so many packages.
+/// The report of that many packages.
 pub fn report(alloc: Global, count: usize) -> Result<String, AllocError>
     ensures { IfOk result (λ s. string_bytes s ≡ report_of count) }
 {

@@ -50,7 +50,7 @@ fn install<P: Fs, R: ReadFs, O: Sink>(
         Ok(report) => report,
         Err(_) => return Status::Memory,
     };
-    let _ = ready.plan.as_slice();
+    let _ = ready.plan.as_slice(); // its paths rise
     if let Err(status) = write(alloc, &ready.plan, project, registry) {
         return status;
     }

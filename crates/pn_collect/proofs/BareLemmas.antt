@@ -1,7 +1,6 @@
 -- Bare packages in order of their ids, and their places.
-use Rattle.std.proofs.Common.{◌≡◌, ◌<◌, ◌≤◌, ◌+◌, ℕ, List, [], ◌∷◌, Option, Some, None, length, map, get_or, refl, sym, ap, ◌∙◌, subst, arith, IsPermutation}
+use Rattle.std.proofs.Common.{◌≡◌, ◌<◌, ◌+◌, ℕ, List, [], ◌∷◌, Option, length, map, get_or, sym, ap, ◌∙◌, subst, arith, IsPermutation}
 use Rattle.std.specs.Prelude.{IsSortedBy}
-use Rattle.std.specs.Option.{ForSome}
 use Rattle.std.specs.List.{All, Contains}
 use Rattle.std.specs.List.Sorted.{IsSorted}
 use Rattle.std.specs.Cmp.Lexicographic.{slice_cmp}
@@ -9,11 +8,9 @@ use Rattle.std.specs.Ordering.{nat_cmp, is_lt}
 use Rattle.std.proofs.lemmas.List.{get_or-map, length-map}
 use Rattle.std.proofs.lemmas.List.Elements.{All-contains, All-contains_itself, All-map, All-weaker}
 use Rattle.std.proofs.lemmas.List.Sorted.{All-permutation}
-use Rattle.pn_text.specs.declared.limits.TheConstants.{ID_LIMIT}
-use Rattle.pn_fs.specs.Tree.{Tree, folder}
+use Rattle.pn_fs.specs.Tree.{Tree}
 use Rattle.pn_graph.specs.declared.links.Package.{Package as Node}
 use Rattle.pn_graph.specs.declared.plain.Plain.{Plain}
-use Rattle.pn_registry.specs.Places.{package_folder}
 use Rattle.pn_collect.specs.Outline.{bare_of, bare_id}
 use Rattle.pn_collect.specs.Packages.{FoldersStand, AreShort, HasPlace}
 use Rattle.pn_collect.specs.declared.bare.Bare.{Bare}

@@ -1,10 +1,8 @@
 -- The first package that is refused is one, and so is its cause.
 use Rattle.std.proofs.Common.{◌≡◌, List, [], ◌∷◌, Some, nat_cmp, map, refl, sym, ap, ◌∙◌, subst, IsPermutation}
 use Rattle.std.specs.Cmp.Lexicographic.{slice_cmp}
-use Rattle.std.specs.List.{Contains}
 use Rattle.std.specs.List.Sorted.{IsStrictlySortedBy}
 use Rattle.std.proofs.lemmas.List.Sorted.{Contains-permutation, IsPermutation-sym, IsPermutation-trans}
-use Rattle.pn_text.specs.Path.{Path}
 use Rattle.pn_text.specs.First.{FirstFails}
 use Rattle.pn_text.proofs.Firsts.{one_fault}
 use Rattle.pn_fs.specs.Tree.{Tree, IsTree}
@@ -13,9 +11,8 @@ use Rattle.pn_registry.specs.Places.{package_folder}
 use Rattle.pn_registry.specs.declared.contents.FilesFault.{FilesFault}
 use Rattle.pn_registry.specs.declared.contents.FilesFault.TheVariants.{Modules as FileModules, TooLarge as FileTooLarge, Entries as FileEntries, Fault as FileFault, Memory as FileMemory}
 use Rattle.pn_registry.proofs.FilesLawLemmas as files
-use Rattle.pn_graph.specs.declared.plain.Plain.{Plain}
 use Rattle.pn_layout.specs.Links.{Id}
-use Rattle.pn_collect.specs.CollectFaults.{NoFiles, IsFirstRefused}
+use Rattle.pn_collect.specs.CollectFaults.{NoFiles}
 use Rattle.pn_collect.specs.Laws.{CauseLaw}
 use Rattle.pn_collect.specs.Outline.{HasPassed, node_id}
 use Rattle.pn_collect.specs.declared.fault.CollectFault.{CollectFault}

@@ -1,5 +1,5 @@
 -- The first package that is refused.
-use Rattle.std.proofs.Common.{◌≡◌, ◌+◌, ◌<◌, ◌∷◌, ◌++◌, ℕ, List, Option, IfSome, map, nat_cmp, length, take, drop, get_or, ap, ◌∙◌, subst, IsPermutation, IsSorted}
+use Rattle.std.proofs.Common.{◌≡◌, ◌+◌, ◌<◌, ◌∷◌, ℕ, List, Option, IfSome, map, nat_cmp, length, take, drop, get_or, ap, ◌∙◌, subst, IsPermutation, IsSorted}
 use Rattle.std.specs.Cmp.Lexicographic.{slice_cmp}
 use Rattle.std.specs.List.{All}
 use Rattle.std.proofs.lemmas.List.{map-append}
@@ -9,7 +9,6 @@ use Rattle.pn_text.specs.First.{FirstFails}
 use Rattle.pn_fs.specs.Tree.{Tree}
 use Rattle.pn_graph.specs.declared.plain.Plain.{Plain}
 use Rattle.pn_registry.specs.Places.{package_folder}
-use Rattle.pn_layout.specs.Links.{Id}
 use Rattle.pn_layout.specs.declared.packages.Package.{Package}
 use Rattle.pn_collect.specs.CollectFaults.{NoFiles, IsFirstRefused}
 use Rattle.pn_collect.specs.Outline.{Outline, outline, dressed, bare_of, bare_id, IsMade, HasFiles, HasPassed, AreSoundFiles, AreFilesBelow}

@@ -1,11 +1,8 @@
 -- What a graph keeps of its nodes.
-use Rattle.std.proofs.Common.{◌≡◌, ◌≢◌, ◌<◌, ℕ, List, Option, Some, None, Bool, true, false, length, map, inl, inr, refl, sym, ap, ◌∙◌, subst, arith}
+use Rattle.std.proofs.Common.{◌≡◌, ◌≢◌, Option, Bool, true, false, length, map, inl, inr, refl, sym, ◌∙◌, subst}
 use Rattle.std.specs.Prelude.{◌&&◌, not, nat_lt, slice_get}
-use Rattle.std.specs.List.{Contains, list_all, list_any, IsDistinct}
+use Rattle.std.specs.List.{Contains, list_all}
 use Rattle.std.specs.Str.{bytes_eq}
-use Rattle.std.proofs.lemmas.List.Elements.{All-contains}
-use Rattle.std.proofs.lemmas.List.Folds.{list_any_at}
-use Rattle.std.proofs.lemmas.List.Sums.{AllPass-from_list_all}
 use Rattle.std.proofs.lemmas.Option.{slice_get_cases}
 use Rattle.std.proofs.lemmas.Slice.Eq.{bytes_eq-Decides}
 use Rattle.pn_text.specs.Ids.{id_name}
@@ -17,12 +14,8 @@ use Rattle.pn_graph.specs.declared.links.Project.{Project}
 use Rattle.pn_graph.specs.declared.links.Package.{Package as Node}
 use Rattle.pn_graph.specs.Lookups.{project_deps}
 use Rattle.pn_graph.specs.declared.plain.Plain.{Plain}
-
-pub passes : {X : Type 0} (p : X → Bool) (xs : List X) (x : X) → list_all p xs ≡ true → Contains xs x → p x ≡ true
-passes p xs x h c = All-contains (λ y. p y ≡ true) xs x (AllPass-from_list_all p xs h) c
-
-any_has : {X : Type 0} (p : X → Bool) (xs : List X) (x : X) → p x ≡ true → Contains xs x → list_any p xs ≡ true
-any_has p xs x h c = list_any_at p xs c.0 x c.1 (ap p c.2 ∙ h)
+use Rattle.pn_graph.proofs.FreeLemmas.{any_has}
+use Rattle.pn_graph.proofs.RangeLemmas.{passes}
 
 nodes_right : (plain : Plain) → are_nodes plain.projects plain.packages ≡ true
 nodes_right plain = and_right (nat_lt plain.root.0 (length plain.projects)) (are_nodes plain.projects plain.packages) plain.right

@@ -1,8 +1,8 @@
 -- The links of a graph's nodes.
-use Rattle.std.proofs.Common.{◌≡◌, ◌<◌, ◌≤◌, ◌+◌, ℕ, List, [], ◌∷◌, ◌++◌, Option, Some, None, Bool, true, Less, nat_cmp, length, map, take, get_or, inl, inr, refl, sym, ap, ◌∙◌, subst, arith, append-nil}
-use Rattle.std.specs.Prelude.{◌&&◌, nat_lt, slice_get}
+use Rattle.std.proofs.Common.{◌≡◌, ◌<◌, ◌≤◌, ◌+◌, ℕ, List, [], ◌∷◌, ◌++◌, true, Less, nat_cmp, length, take, get_or, inl, inr, refl, sym, ap, ◌∙◌, subst, arith, append-nil}
+use Rattle.std.specs.Prelude.{slice_get}
 use Rattle.std.specs.Cmp.Lexicographic.{slice_cmp}
-use Rattle.std.specs.List.{All, Contains, flat_map, list_all}
+use Rattle.std.specs.List.{All, Contains, list_all}
 use Rattle.std.specs.List.Sorted.{IsStrictlySortedBy}
 use Rattle.std.specs.Ordering.{is_lt}
 use Rattle.std.proofs.lemmas.Bool.{ltb-true}
@@ -12,7 +12,7 @@ use Rattle.std.proofs.lemmas.List.{take_more, take_all}
 use Rattle.std.proofs.lemmas.List.Elements.{All-append, All-contains, All-contains_itself, All-weaker, recursion_from_All}
 use Rattle.std.proofs.lemmas.Option.{slice_get_cases}
 use Rattle.pn_text.proofs.Bools.{and_left, and_right}
-use Rattle.pn_text.proofs.Members.{from_map, to_map, here, there, in_cons, in_one, none_in}
+use Rattle.pn_text.proofs.Members.{from_map, to_map, in_cons, in_one, none_in}
 use Rattle.pn_text.proofs.Orders.{is_less}
 use Rattle.pn_graph.specs.Graphs.{aliases, rises, are_deps, in_range}
 use Rattle.pn_graph.specs.declared.links.At.{At}
@@ -20,11 +20,11 @@ use Rattle.pn_graph.specs.declared.links.At.TheVariants.{Project as to_project, 
 use Rattle.pn_graph.specs.declared.links.Dep.{Dep}
 use Rattle.pn_graph.specs.declared.links.Package.{Package as Node}
 use Rattle.pn_graph.specs.Lookups.{package_id as package_id_of}
+use Rattle.pn_graph.proofs.RangeLemmas.{passes}
 use Rattle.pn_layout.specs.Links.{Pair, IsRising, aliases as names}
 use Rattle.pn_layout.specs.Sound.{IsSoundPair, AreSoundLinks}
 use Rattle.pn_layout.proofs.Contents.{from_flat_map}
 use Rattle.pn_collect.specs.Outline.{link_to, links_of}
-use Rattle.pn_collect.proofs.GraphFacts.{passes}
 
 abbrev to_links : List Node → Dep → List Pair
 to_links nodes d = link_to nodes d.alias d.to

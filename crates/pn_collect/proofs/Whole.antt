@@ -1,7 +1,7 @@
 -- The packages of an install are sound and whole.
-use Rattle.std.proofs.Common.{◌≡◌, ◌≢◌, List, [], ◌∷◌, Option, Some, None, Result, Ok, Err, IfOk, IfSome, map, length, nat_cmp, refl, sym, ap, ◌∙◌, subst, true, IsPermutation, IsSorted}
+use Rattle.std.proofs.Common.{◌≡◌, List, [], ◌∷◌, Option, IfSome, map, length, nat_cmp, refl, sym, ap, ◌∙◌, subst, true, IsPermutation, IsSorted}
 use Rattle.std.specs.Prelude.{slice_get}
-use Rattle.std.specs.List.{All, Contains, IsDistinct}
+use Rattle.std.specs.List.{All, Contains}
 use Rattle.std.specs.Cmp.Lexicographic.{slice_cmp}
 use Rattle.std.specs.List.Sorted.{IsStrictlySortedBy}
 use Rattle.std.specs.Str.{bytes_eq}
@@ -145,8 +145,6 @@ are_packages r plain v is files = record {
   files = if_all (λ t. All (HasFiles t) v) (λ t. HaveFiles t v) r (λ t. have_files t v) files;
 }
 
-pub packages_of : {V E : Type 0} (items : V → List Package) (res : Result V E) (r : Option Tree) (plain : Plain) (bare : List Bare) → IsPermutation (map (bare_of plain.packages) plain.packages) bare
-    → IsSorted (slice_cmp nat_cmp) (map bare_id bare) → AreSoundLinks (direct_of plain) → IfOk res (λ v. map outline (items v) ≡ map dressed bare) → IfOk res (λ v. All IsMade (items v))
-    → IfSome r (λ t. IfOk res (λ v. All (HasFiles t) (items v))) → IfOk res (λ v. ArePackages r plain (items v))
-packages_of items (Ok v) r plain bare order sorted direct same made files = are_packages r plain (items v) (record { bare = bare; order = order; sorted = sorted; same = same; made = made; direct = direct }) files
-packages_of items (Err e) r plain bare order sorted direct same made files = tt
+pub packages_of : (r : Option Tree) (plain : Plain) (bare : List Bare) (v : List Package) → IsPermutation (map (bare_of plain.packages) plain.packages) bare → IsSorted (slice_cmp nat_cmp) (map bare_id bare)
+    → AreSoundLinks (direct_of plain) → map outline v ≡ map dressed bare → All IsMade v → IfSome r (λ t. All (HasFiles t) v) → ArePackages r plain v
+packages_of r plain bare v order sorted direct same made files = are_packages r plain v (record { bare = bare; order = order; sorted = sorted; same = same; made = made; direct = direct }) files

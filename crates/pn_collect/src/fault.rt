@@ -1,8 +1,8 @@
-// Why the packages of an install aren't told.
+// Why the packages of an install aren't known.
 use pn_text::{Memory, PkgId, RelPath};
 use thiserror::Error;
 
-/// Why the packages of an install aren't told: a package with a file whose path has a part `node_modules`; a file of so
+/// Why the packages of an install aren't known: a package with a file whose path has a part `node_modules`; a file of that
 /// many bytes, past 268,435,456; more than 4,194,304 entries below a package's folder; a failed call; no memory.
 #[derive(Debug, Drop, Error)]
 pub enum CollectFault {

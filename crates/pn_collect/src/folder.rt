@@ -1,4 +1,4 @@
-// Where a package stands in the registry.
+// Where a package is in the registry.
 ghost use Rattle.std.specs.Prelude.{◌≡◌, ◌≤◌, IfOk, length};
 ghost use Rattle.pn_text.specs.declared.limits.TheConstants.{ID_LIMIT};
 ghost use Rattle.pn_registry.specs.Places.{package_folder};

@@ -4,7 +4,7 @@ ghost use Rattle.std.specs.List.{All};
 ghost use Rattle.pn_text.specs.First.{FirstFails};
 ghost use Rattle.pn_fs.specs.Seen.{Keeps};
 ghost use Rattle.pn_collect.specs.CollectFaults.{CollectRefuses, IsFirstRefused, NoFiles};
-ghost use Rattle.pn_collect.specs.Outline.{outline, dressed, bare_id, HasFiles, HasPassed, IsMade, IsSoundBare};
+ghost use Rattle.pn_collect.specs.Outline.{direct_of, outline, dressed, bare_id, HasFiles, HasPassed, IsMade, IsSoundBare};
 ghost use Rattle.pn_collect.specs.Packages.{ArePackages, AreShort, FoldersStand, HasPlace};
 
 use crate::bare::{Bare, bare_by_id};
@@ -13,26 +13,35 @@ use crate::links::direct;
 use crate::package::package;
 use pn_fs::ReadFs;
 use pn_graph::Plain;
-use pn_layout::Package;
+use pn_layout::{Links, Package};
 use pn_text::Memory;
 use std::alloc::Global;
 
-/// Finds the packages of an install with their files, in byte order of the texts `name@version`. The first package that
-/// has no files is the refusal: see `CollectFault`.
+/// What an install links and writes: the links of the root project, and the packages with their files in byte order of
+/// the texts `name@version`.
+#[derive(Drop)]
+pub struct Collected {
+    pub direct: Links,
+    pub packages: Vec<Package>,
+}
+
+/// Finds the links and the packages of an install. The first package that has no files is the refusal: see `CollectFault`.
 pub fn collect<R: ReadFs>(
     alloc: Global,
     registry: &mut R,
     plain: &Plain,
-) -> Result<Vec<Package>, CollectFault>
+) -> Result<Collected, CollectFault>
     requires stand { FoldersStand (R.seen registry.old).tree plain.now }
     requires short { AreShort plain.now }
-    ensures packages { IfOk result (λ v. ArePackages (R.seen registry.old).tree plain.now v.items) }
+    ensures direct { IfOk result (λ c. c.direct ≡ direct_of plain.now) }
+    ensures packages { IfOk result (λ c. ArePackages (R.seen registry.old).tree plain.now c.packages.items) }
     ensures kept { Keeps (R.seen registry.old) (R.seen registry.new) }
     ensures refused { IfErr result (CollectRefuses (IsFirstRefused plain.now) (R.seen registry.old) (R.seen registry.new)) }
 {
-    let _ = direct(alloc, plain)?; // the project's aliases are names
+    let direct = direct(alloc, plain)?;
     let bare = bare_by_id(alloc, plain)?;
-    packages(alloc, registry, bare.as_slice())
+    let packages = packages(alloc, registry, bare.as_slice())?;
+    Ok(Collected { direct, packages })
 }
 
 // The packages in the order given.

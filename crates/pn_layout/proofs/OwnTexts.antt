@@ -1,12 +1,12 @@
 -- The texts of links to the package that they stand beside.
-use Rattle.std.proofs.Common.{◌≡◌, ◌≢◌, ℕ, List, [], ◌∷◌, ◌++◌, length, refl, sym, ap, ◌∙◌, subst, true, false, Bool, append_assoc, length-append, inl, inr, arith, Some, None}
+use Rattle.std.proofs.Common.{◌≡◌, ◌≢◌, ℕ, List, [], ◌∷◌, ◌++◌, length, refl, sym, ap, ◌∙◌, subst, true, false, length-append, inl, inr, arith, Some, None}
 use Rattle.std.specs.Prelude.{◌==◌, ◌&&◌, if◌then◌else◌, codes, IsTrue, MatchOption, Option}
 use Rattle.std.specs.Borrow.{Bor}
 use Rattle.std.specs.Str.{bytes_eq}
 use Rattle.std.proofs.lemmas.Bool.{eqb-true}
 use Rattle.std.proofs.lemmas.List.{append_cancel_left}
 use Rattle.std.proofs.lemmas.Slice.Eq.{bytes_eq-Decides}
-use Rattle.pn_text.specs.Path.{Path, is_flat, same_path, text_below, tail_of}
+use Rattle.pn_text.specs.Path.{Path, is_flat, same_path, tail_of}
 use Rattle.pn_text.specs.Name.{is_name, is_name_part, name_path, IsName}
 use Rattle.pn_text.specs.Relative.{parent_of, IsRelative}
 use Rattle.pn_text.proofs.NameTexts.{name_of, name_cases, no_scope_in_part}

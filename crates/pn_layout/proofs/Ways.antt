@@ -1,18 +1,17 @@
 -- The texts of links.
 use Rattle.std.proofs.Common.{◌≡◌, ◌≢◌, ℕ, List, [], ◌∷◌, ◌++◌, length, refl, sym, ap, ◌∙◌, subst, true, false, append_assoc, inl, inr}
-use Rattle.std.specs.Prelude.{◌==◌, ◌&&◌, if◌then◌else◌, codes}
+use Rattle.std.specs.Prelude.{if◌then◌else◌, codes}
 use Rattle.std.specs.Str.{bytes_eq}
-use Rattle.std.proofs.lemmas.Bool.{eqb-true}
 use Rattle.std.proofs.lemmas.Slice.Eq.{bytes_eq-Decides}
 use Rattle.pn_text.specs.Ids.{id_name, is_id}
-use Rattle.pn_text.specs.Path.{Path, text_below, same_path}
-use Rattle.pn_text.specs.Name.{is_name_part, name_path, modules, IsName}
+use Rattle.pn_text.specs.Path.{Path, text_below}
+use Rattle.pn_text.specs.Name.{name_path, modules, IsName}
 use Rattle.pn_text.specs.Relative.{parent_of, dots, NoneShared, IsRelative}
 use Rattle.pn_text.proofs.Joins.{text_below-append}
-use Rattle.pn_text.proofs.NameTexts.{name_of, name_text, name_cases, no_scope_in_part}
+use Rattle.pn_text.proofs.NameTexts.{name_of, name_text, name_cases}
 use Rattle.pn_text.proofs.Relatives.{none_up, none_by_parts, steps_some}
 use Rattle.pn_layout.specs.Links.{Id, Pair}
-use Rattle.pn_layout.specs.Store.{store_of, dir_name, beside_of, home_of, scope_up, top_text, own_text, last_part, beside_text}
+use Rattle.pn_layout.specs.Store.{store_of, dir_name, beside_of, home_of, scope_up, top_text, own_text, beside_text}
 use Rattle.pn_layout.specs.Sound.{IsSoundPair}
 use Rattle.pn_layout.proofs.Dirs.{named_id, one_dir}
 use Rattle.pn_layout.proofs.OwnTexts.{plain_up, own_relative}

@@ -1,5 +1,5 @@
 -- What the packages of an install keep.
-use Rattle.std.specs.Prelude.{◌≡◌, ◌≢◌, ◌≤◌, ℕ, List, [], ◌++◌, true, length}
+use Rattle.std.specs.Prelude.{◌≡◌, ◌≢◌, ◌≤◌, List, [], ◌++◌, true, length}
 use Rattle.std.specs.List.{Contains}
 use Rattle.pn_text.specs.declared.limits.TheConstants.{PATH_LIMIT}
 use Rattle.pn_text.specs.Ids.{id_name, is_id}

@@ -1,5 +1,5 @@
 // What is planned for its own sake, added to a draft.
-ghost use Rattle.std.specs.Prelude.{◌≡◌, ◌++◌, ◌∷◌, ◌≤◌, [], List, IfOk, OnOk, map, length, true, string_bytes};
+ghost use Rattle.std.specs.Prelude.{◌≡◌, ◌++◌, ◌∷◌, ◌≤◌, [], IfOk, OnOk, map, length, true, string_bytes};
 ghost use Rattle.std.specs.List.{flat_map};
 ghost use Rattle.pn_text.specs.declared.limits.TheConstants.{PATH_LIMIT};
 ghost use Rattle.pn_text.specs.Ids.{is_id};

@@ -33,7 +33,7 @@ impl Model for Links {
 }
 
 impl Links {
-    /// Links that stand in order.
+    /// Links that are in order.
     pub fn of(items: Vec<Link>) -> Links
         requires { IsRising (map pair_of items.items) }
         ensures { result ≡ map pair_of items.items }

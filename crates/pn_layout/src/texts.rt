@@ -45,7 +45,7 @@ fn store_way(alloc: Global, lead: &str, link: &Link) -> Result<Text, Memory>
     Text::of(alloc, text.as_str())
 }
 
-// From an alias's folder to the package that it stands beside.
+// From an alias's folder to the package that it is beside.
 fn own_text(alloc: Global, alias: &PkgName, name: &PkgName) -> Result<Text, Memory>
     ensures { IfOk result (λ t. t ≡ own_text alias.now name.now) }
 {
@@ -70,7 +70,7 @@ fn in_one_scope<'a>(alias: &PkgName, name: &'a PkgName) -> Option<&'a str>
     if scope == other { Some(last) } else { None }
 }
 
-// The scope of a name and what stands in it, or none where it has no scope.
+// The scope of a name and what is in it, or none where it has no scope.
 fn in_scope(name: &PkgName) -> Option<(&str, &str)>
     ensures named { is_name name.now ≡ true }
     ensures path { MatchOption result (name_path name.now ≡ name.now ∷ []) (λ x. name_path name.now ≡ x.1.now ∷ x.0.now ∷ []) }
@@ -125,7 +125,7 @@ fn with_plus(alloc: Global, text: &str) -> Result<String, AllocError>
     Ok(all)
 }
 
-// What stands before and behind the first slash.
+// What is before and after the first slash.
 fn at_slash(text: &str) -> Option<(&str, &str)>
     ensures { MatchOption result (IsTrue (is_flat text.now)) (λ x. IsTrue (is_flat x.0.now) × (text.now ≡ x.0.now ++ 47 ∷ x.1.now)) }
 {

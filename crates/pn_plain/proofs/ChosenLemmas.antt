@@ -1,6 +1,7 @@
 -- The version that is chosen is that of the choice.
 use Rattle.std.proofs.Common.{◌≡◌, ℕ, Bool, List, [], ◌∷◌, Option, Some, None, refl, sym, ap, ◌∙◌, subst}
 use Rattle.std.specs.Prelude.{Result, Ok, slice_get, option_and_then}
+use Rattle.std.proofs.lemmas.Option.{none-some}
 use Rattle.semver.specs.Parse.{Parts}
 use Rattle.pn_ranges.specs.Limits.{Limit}
 use Rattle.pn_spec.specs.declared.want.Want.{Want}
@@ -14,19 +15,16 @@ use Rattle.pn_plain.specs.Aims.{Chooses, Found, id_at}
 use Rattle.pn_plain.specs.Given.{Given, held_of, tag_place, version_of}
 use Rattle.pn_plain.specs.Told.{Told, IsToldShelf}
 
-none_some : {A : Type 0} (a : A) → None ≡ Some a → ⊥
-none_some a h = cc
-
 some_none : {A : Type 0} (o : Option A) (a : A) → o ≡ Some a → o ≡ None → ⊥
 some_none o a x y = cc
 
 -- the version at a place
 at_place : (vs : List Parts) (o : Option ℕ) (v : Parts) → option_and_then (slice_get vs) o ≡ Some v → (k : ℕ) × (o ≡ Some k) × (slice_get vs k ≡ Some v)
-at_place vs None v h = absurd (none_some v h)
+at_place vs None v h = absurd (none-some v h)
 at_place vs (Some k) v h = (k, refl, h)
 
 no_place : (vs : List Parts) (o : Option ℕ) → option_and_then (slice_get vs) o ≡ None → (k : ℕ) (v : Parts) → o ≡ Some k → slice_get vs k ≡ Some v → ⊥
-no_place vs None h k v e there = none_some k e
+no_place vs None h k v e there = none-some k e
 no_place vs (Some j) h k v e there = let same : j ≡ k = cc in some_none (slice_get vs j) v (ap (slice_get vs) same ∙ there) h
 
 -- where the choice has no version, no version passes

@@ -1,40 +1,21 @@
 -- What is kept of a manifest.
 use Rattle.std.proofs.Common.{◌≡◌, ℕ, Bool, true, false, List, [], ◌∷◌, ◌++◌, Option, Some, None, refl, sym, ap, ◌∙◌, subst, inl, inr}
-use Rattle.std.specs.Prelude.{◌⊎◌, ◌||◌, cond, not, filter}
+use Rattle.std.specs.Prelude.{◌⊎◌, ◌||◌, not}
 use Rattle.std.specs.List.{Contains}
 use Rattle.std.specs.Str.{bytes_eq}
 use Rattle.std.proofs.lemmas.Slice.Eq.{bytes_eq-Decides}
-use Rattle.std.proofs.lemmas.List.Elements.{All-contains, All-contains_itself, All-filter, filter_passes, Contains-append_left, Contains-append_right, Contains-append_cases}
+use Rattle.std.proofs.lemmas.List.Elements.{Contains-append_left, Contains-append_right, Contains-append_cases}
 use Rattle.std.proofs.lemmas.Map.Views.{Contains-from_any}
 use Rattle.pn_text.proofs.Bools.{true_false, not_true, or_right}
-use Rattle.pn_text.proofs.Members.{none_in, in_one, in_cons, here, there, from_map, to_map}
+use Rattle.pn_text.proofs.Members.{none_in, in_one, in_cons, here, from_map, to_map}
 use Rattle.pn_manifest.specs.declared.peers.Peer.{Peer}
 use Rattle.pn_manifest.specs.Pairs.{Pair, names}
 use Rattle.pn_manifest.specs.Said.{Said}
+use Rattle.pn_walk.proofs.FilterLemmas.{in_filter, to_filter}
 use Rattle.pn_plain.specs.Seen.{Owner, is_among, but, peers_but, own_names, dev_of, one_map, dependency_names, dropped, no_hook, no_rules, IsSeen}
 use Rattle.pn_plain.specs.SeenLaws.{IsIn, IsDependency, SeenWords, IsOnce, AddsNone, HasNoOwn, SeenLaw}
 use Rattle.pn_plain.specs.Told.{Told, IsOverridden, IsToldSeen}
 use Rattle.pn_plain.proofs.PlainLemmas.{one_seen, told_rules}
-
--- what a filter keeps
-kept : {X : Type 0} (p : X → Bool) (xs : List X) (x : X) → Contains (filter p xs) x → Contains xs x
-kept p xs x h = All-contains (Contains xs) (filter p xs) x (All-filter p (Contains xs) xs (All-contains_itself xs)) h
-
-kept_passes : {X : Type 0} (p : X → Bool) (xs : List X) (x : X) → Contains (filter p xs) x → p x ≡ true
-kept_passes p xs x h = All-contains (λ y. p y ≡ true) (filter p xs) x (filter_passes p xs) h
-
-passes_kept : {X : Type 0} (p : X → Bool) (xs : List X) (x : X) → Contains xs x → p x ≡ true → Contains (filter p xs) x
-passes_kept p [] x h e = h
-passes_kept {X} p (y ∷ ys) x h e = elim (p y) as (λ b. p y ≡ b → Contains (cond b (y ∷ filter p ys) (filter p ys)) x) [
-  | true ↦ λ is. elim (in_cons y ys x h) [
-    | inl same ↦ subst (λ (z : X). Contains (z ∷ filter p ys) x) (sym same) (here x (filter p ys))
-    | inr more ↦ there y (filter p ys) x (passes_kept p ys x more e)
-  ]
-  | false ↦ λ is. elim (in_cons y ys x h) [
-    | inl same ↦ absurd (true_false (p x) e (ap p (sym same) ∙ is))
-    | inr more ↦ passes_kept p ys x more e
-  ]
-] refl
 
 -- names among others
 among : (all : List (List ℕ)) (n : List ℕ) → is_among all n ≡ true → Contains all n
@@ -72,11 +53,11 @@ names_in pairs n h = to_map (λ (e : Pair). e.0) pairs (n, h.0) h.1
 -- what is left of a map, and of peers
 from_but : (all : List (List ℕ)) (pairs : List Pair) (n t : List ℕ) → Contains (but all pairs) (n, t) → Contains pairs (n, t) × (Contains all n → ⊥)
 from_but all pairs n t h =
-    let p : Pair → Bool = λ e. not (is_among all e.0) in
-    (kept p pairs (n, t) h, none_among all n (kept_passes p pairs (n, t) h))
+    let k = in_filter (λ (e : Pair). not (is_among all e.0)) pairs (n, t) h in
+    (k.0, none_among all n k.1)
 
 to_but : (all : List (List ℕ)) (pairs : List Pair) (n t : List ℕ) → Contains pairs (n, t) → (Contains all n → ⊥) → Contains (but all pairs) (n, t)
-to_but all pairs n t h k = passes_kept (λ (e : Pair). not (is_among all e.0)) pairs (n, t) h (not_among all n k)
+to_but all pairs n t h k = to_filter (λ (e : Pair). not (is_among all e.0)) pairs (n, t) h (not_among all n k)
 
 in_but : (all : List (List ℕ)) (pairs : List Pair) (n : List ℕ) → IsIn (but all pairs) n → IsIn pairs n
 in_but all pairs n h = (h.0, (from_but all pairs n h.0 h.1).0)
@@ -86,11 +67,11 @@ not_in_but all pairs n h = (from_but all pairs n h.0 h.1).1
 
 from_peers : (all : List (List ℕ)) (peers : List Peer) (p : Peer) → Contains (peers_but all peers) p → Contains peers p × (Contains all p.name → ⊥)
 from_peers all peers p h =
-    let test : Peer → Bool = λ q. not (is_among all q.name) in
-    (kept test peers p h, none_among all p.name (kept_passes test peers p h))
+    let k = in_filter (λ (q : Peer). not (is_among all q.name)) peers p h in
+    (k.0, none_among all p.name k.1)
 
 to_peers : (all : List (List ℕ)) (peers : List Peer) (p : Peer) → Contains peers p → (Contains all p.name → ⊥) → Contains (peers_but all peers) p
-to_peers all peers p h k = passes_kept (λ (q : Peer). not (is_among all q.name)) peers p h (not_among all p.name k)
+to_peers all peers p h k = to_filter (λ (q : Peer). not (is_among all q.name)) peers p h (not_among all p.name k)
 
 -- the manifest's own name
 own_is : (o : Option (List ℕ)) (n : List ℕ) → Contains (own_names o) n → o ≡ Some n
@@ -231,7 +212,7 @@ words owner m = record {
   );
 }
 
-seen_words : (owner : Owner) (m s : Said) → IsSeen no_hook no_rules owner m s → SeenWords owner m s
+pub seen_words : (owner : Owner) (m s : Said) → IsSeen no_hook no_rules owner m s → SeenWords owner m s
 seen_words owner m s h =
     subst (λ (x : Said). SeenWords owner m x) (sym (h.is ∙ ap (λ (x : Said). dropped (dependency_names (one_map owner m)) x) h.by_rules)) (words owner m)
 

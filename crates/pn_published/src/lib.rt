@@ -18,7 +18,6 @@ mod tests;
 mod top;
 
 pub use choice::choose;
-pub use entries::parse_version;
 pub use fault::PublishedFault;
 pub use laws::{choice_law, published_law};
 pub use order::version_cmp;

@@ -1,16 +1,17 @@
 -- Texts of files in order, and what a search among them finds.
 use Rattle.std.proofs.Common.{◌≡◌, ℕ, ◌+◌, ◌<◌, ◌≤◌, List, [], ◌∷◌, ◌++◌, length, map, take, drop, get_or, refl, sym, ap, ◌∙◌, subst, arith, true, false, nat_cmp, length-append}
-use Rattle.std.specs.declared.cmp.Ordering.TheVariants.{Less, Equal, Greater}
+use Rattle.std.specs.declared.cmp.Ordering.TheVariants.{Less, Greater}
 use Rattle.std.proofs.lemmas.Bool.Decides.{nat_tests}
 use Rattle.std.specs.Prelude.{Result, Ok, Err, is_ok, suc, nat_lt}
 use Prim.Native.Nat.{zero}
 use Rattle.std.specs.Bool.{MatchBool}
-use Rattle.std.specs.Ordering.{is_lt, is_eq}
-use Rattle.std.specs.Cmp.Lexicographic.{slice_cmp, texts_ties}
+use Rattle.std.specs.Ordering.{is_lt}
+use Rattle.std.specs.Cmp.Lexicographic.{slice_cmp}
 use Rattle.std.specs.List.Sorted.{IsStrictlySortedBy, IsSortedBy, IsSearchInRange, IsBinarySearchResult}
 use Rattle.std.proofs.lemmas.Cmp.{nat_list_cmp_total, tied_itself}
 use Rattle.std.proofs.lemmas.List.Elements.{Contains-get_or}
 use Rattle.std.proofs.lemmas.List.Sorted.{searchable_from_sorted}
+use Rattle.std.proofs.lemmas.Map.Lookups.{exact_bytes}
 use Rattle.pn_text.specs.Path.{text_below}
 use Rattle.pn_registry.specs.Files.{File, IsRising}
 use Rattle.pn_registry.specs.Listed.{file_of, text_of}
@@ -19,7 +20,6 @@ use Rattle.pn_registry.specs.declared.list.PackageFile.{PackageFile}
 use Rattle.pn_text.proofs.Bytes.{around_slash, at_seam, before_seam}
 use Rattle.pn_text.proofs.Members.{from_map, to_map}
 use Rattle.pn_text.proofs.Orders.{is_less, not_before_self, not_both_before}
-use Rattle.pn_registry.proofs.Orders.{same_text}
 
 not_back : (x y : List ℕ) → slice_cmp nat_cmp x y ≡ Less → is_lt (slice_cmp nat_cmp y x) ≡ false
 not_back x y h = elim (is_lt (slice_cmp nat_cmp y x)) as (λ b. is_lt (slice_cmp nat_cmp y x) ≡ b → b ≡ false) [
@@ -39,9 +39,6 @@ sorted (f ∷ g ∷ fs) h zero d low within = not_back (text_of f) (text_of g) h
 sorted (f ∷ g ∷ fs) h (suc k) d low within =
     subst (λ z. is_lt (slice_cmp nat_cmp (text_of z) (text_of (get_or (g ∷ fs) k d))) ≡ false) (sym (read_on f (g ∷ fs) k d)) (sorted (g ∷ fs) h.1 k d (omega arith) (omega arith))
 
-tied : (x y : List ℕ) → slice_cmp nat_cmp x y ≡ Equal → x ≡ y
-tied x y e = same_text x y (texts_ties x y ∙ ap is_eq e)
-
 not_after_itself : (x : List ℕ) → slice_cmp nat_cmp x x ≡ Greater → ⊥
 not_after_itself x h = let same = tied_itself nat_list_cmp_total x in cc (same, h)
 
@@ -51,7 +48,7 @@ pub searched : (x : List ℕ) (fs : List PackageFile) (r : Result ℕ ℕ) → I
 searched x [] (Ok at) rising within equal = absurd (omega (arith, within))
 searched x (f ∷ fs) (Ok at) rising within equal =
     let y = get_or (f ∷ fs) at f in
-    (file_of y, to_map file_of (f ∷ fs) y (Contains-get_or (f ∷ fs) at f within), tied (text_of y) x (equal f))
+    (file_of y, to_map file_of (f ∷ fs) y (Contains-get_or (f ∷ fs) at f within), exact_bytes (text_of y) x (equal f))
 searched x fs (Err at) rising within parted = λ h.
     let r = from_map file_of fs h.0 h.1 in
     let y = r.0 in

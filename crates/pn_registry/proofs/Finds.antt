@@ -1,5 +1,5 @@
 -- The first file in order that is so.
-use Rattle.std.proofs.Common.{◌≡◌, ◌≢◌, ℕ, List, [], ◌∷◌, ◌++◌, map, refl, sym, ap, ◌∙◌, subst, inl, inr, true, false, Bool, Less, nat_cmp, Some, None, cond}
+use Rattle.std.proofs.Common.{◌≡◌, ◌≢◌, ℕ, List, [], ◌∷◌, map, refl, sym, ap, ◌∙◌, subst, inl, inr, true, false, Bool, Less, nat_cmp, Some, None, cond}
 use Rattle.std.specs.Prelude.{◌⊎◌, Option, find}
 use Rattle.std.specs.Cmp.Lexicographic.{slice_cmp}
 use Rattle.std.specs.List.{Contains, AllByRecursion}

@@ -1,14 +1,13 @@
 -- Paths with a line feed in a part.
-use Rattle.std.proofs.Common.{◌≡◌, ℕ, ◌+◌, ◌-◌, List, [], ◌∷◌, ◌++◌, length, take, refl, sym, ap, ◌∙◌, arith, true, false, Some, None, length-append}
+use Rattle.std.proofs.Common.{◌≡◌, ℕ, ◌+◌, ◌-◌, List, [], ◌∷◌, ◌++◌, length, take, refl, ap, ◌∙◌, arith, true, false, Some, None, length-append}
 use Rattle.std.specs.Prelude.{Bool, Option, ◌==◌, ◌||◌, if◌then◌else◌}
 use Rattle.std.specs.List.{list_any}
 use Rattle.std.proofs.lemmas.List.Folds.{list_any-append}
 use Rattle.pn_text.specs.Path.{Path, text_below, SpellsParts}
 use Rattle.pn_fs.specs.Tree.{Entry, Tree, file}
-use Rattle.pn_fs.specs.Calls.{kind_of}
 use Rattle.pn_read.specs.Small.{IsFileOf}
-use Rattle.pn_registry.specs.Files.{File, holds_line_feed, entry_below}
-use Rattle.pn_registry.specs.Turns.{path_from, without_line_feeds, file_at}
+use Rattle.pn_registry.specs.Files.{holds_line_feed, entry_below}
+use Rattle.pn_registry.specs.Turns.{path_from, without_line_feeds}
 
 or_comm : (a b : Bool) → (a || b) ≡ (b || a)
 or_comm true true = refl

@@ -6,17 +6,16 @@ use Rattle.pn_fs.specs.Tree.{Entry}
 use Rattle.pn_fs.proofs.SeenLemmas.{file_once}
 use Rattle.pn_read.specs.Small.{IsFileOf}
 use Rattle.pn_manifest.specs.Fields.{Spot}
-use Rattle.pn_manifest.specs.Says.{said_of}
 use Rattle.pn_manifest.specs.Fields.{said}
 use Rattle.pn_manifest.specs.Text.{IsObjectText}
 use Rattle.pn_manifest.specs.declared.fault.ManifestWhy.{ManifestWhy}
 use Rattle.pn_manifest.specs.declared.fault.ManifestWhy.TheVariants.{Missing, NotJson, BadField}
-use Rattle.pn_manifest.specs.declared.manifest.Manifest.{Manifest}
 use Rattle.pn_registry.specs.ManifestLaws.{ManifestCauseLaw, ManifestPassedLaw, ManifestSameLaw}
 use Rattle.pn_registry.specs.Package.{text_limit, first_wrong_of, IsText}
 use Rattle.pn_registry.specs.PackageFaults.{IsNoText, WrongFile}
 use Rattle.pn_registry.specs.Places.{Id, manifest_path}
 use Rattle.pn_registry.specs.declared.package.PackageFault.TheVariants.{Wrong, TooLarge, Fault, Memory}
+use Rattle.pn_registry.proofs.Orders.{same_length}
 
 value_once : (x y : Data) (o : Option Data) → o ≡ Some x → o ≡ Some y → x ≡ y
 value_once x y o a b = cc
@@ -74,14 +73,11 @@ long_there id e n NotJson long f h =
     absurd (omega (arith, long, f.2, ap length bytes, h.short))
 long_there id e n (BadField g l) long f h = not_long e h.value n h.text long f
 
-pub one_length : (e : Option Entry) (m n : ℕ) → IsFileOf m e → IsFileOf n e → m ≡ n
-one_length e m n x y = x.2 ∙ ap length (file_once e x.0 y.0 x.1 y.1) ∙ sym y.2
-
 pub cause : ManifestCauseLaw
 cause t id (Wrong v) (Wrong w) a b = ap Wrong (one_wrong id (t (manifest_path id)) v w a b)
 cause t id (Wrong v) (TooLarge n) a b = absurd (long_there id (t (manifest_path id)) n v b.0 b.1 a)
 cause t id (TooLarge n) (Wrong w) a b = absurd (long_there id (t (manifest_path id)) n w a.0 a.1 b)
-cause t id (TooLarge m) (TooLarge n) a b = ap TooLarge (one_length (t (manifest_path id)) m n a.1 b.1)
+cause t id (TooLarge m) (TooLarge n) a b = ap TooLarge (same_length (t (manifest_path id)) m n a.1 b.1)
 cause t id Fault e a b = absurd a
 cause t id Memory e a b = absurd a
 cause t id e Fault a b = absurd b

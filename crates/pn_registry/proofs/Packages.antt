@@ -12,7 +12,7 @@ use Rattle.pn_text.specs.Path.{Path}
 use Rattle.pn_text.specs.Name.{is_name}
 use Rattle.pn_fs.specs.Tree.{Entry, Tree, file}
 use Rattle.pn_fs.specs.Seen.{Seen}
-use Rattle.pn_manifest.specs.Fields.{Spot, or_else, field, wrong_text, wrong_map, text_field, first_wrong, name_of, said}
+use Rattle.pn_manifest.specs.Fields.{Spot, or_else, field, wrong_text, text_field, first_wrong, name_of, said}
 use Rattle.pn_manifest.specs.Text.{IsObjectText}
 use Rattle.pn_manifest.specs.Refusals.{WrongBytes}
 use Rattle.pn_manifest.specs.Said.{Said}

@@ -1,5 +1,5 @@
 // Where a package stands.
-ghost use Rattle.std.specs.Prelude.{◌≡◌, ◌∷◌, [], ◌↔◌, IsTrue, IfOk, IfSome, Some};
+ghost use Rattle.std.specs.Prelude.{◌≡◌, ◌∷◌, ◌↔◌, IsTrue, IfOk, IfSome, Some};
 ghost use Rattle.pn_text.specs.Path.{is_part};
 ghost use Rattle.pn_text.specs.Causes.{HasCause};
 ghost use Rattle.pn_fs.specs.Tree.{folder};

@@ -21,7 +21,7 @@ use std::alloc::Global;
 use thiserror::Error;
 
 /// Why a package has no manifest: what is wrong with its `package.json`, where `name` and `version` are wrong
-/// fields too if they state another one or none; a file of so many bytes, past 16,777,216; a failed call; no
+/// fields too if they state another one or none; a file of that many bytes, past 16,777,216; a failed call; no
 /// memory.
 #[derive(Debug, Drop, Error)]
 pub enum PackageFault {

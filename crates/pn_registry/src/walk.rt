@@ -1,13 +1,13 @@
 // Walks through a folder and all folders below it.
-ghost use Rattle.std.specs.Prelude.{◌≡◌, ◌≢◌, ◌+◌, ◌≤◌, ◌++◌, ◌∷◌, [], OnOk, OnErr, IfOk, IfErr, IfSome, Some, IsTrue, length, map, vec_len, drop, ◌^◌, ◌<◌, ℕ, List, if◌then◌else◌};
+ghost use Rattle.std.specs.Prelude.{◌≡◌, ◌≢◌, ◌+◌, ◌≤◌, ◌++◌, ◌∷◌, [], OnOk, OnErr, IfOk, IfErr, IfSome, Some, length, map, vec_len, drop, ◌^◌, ◌<◌, ℕ, List, if◌then◌else◌};
 ghost use Rattle.std.specs.Option.{ForSome};
 ghost use Rattle.std.specs.List.{All};
-ghost use Rattle.pn_text.specs.Path.{is_part, path_text};
+ghost use Rattle.pn_text.specs.Path.{path_text};
 ghost use Rattle.pn_text.specs.declared.limits.TheConstants.{PATH_LIMIT};
 ghost use Rattle.pn_fs.specs.Tree.{folder};
 ghost use Rattle.pn_fs.specs.Seen.{Keeps, GaveNothing, GaveNames, GaveAtMost};
 ghost use Rattle.pn_fs.specs.Calls.{IsListing, IsEntryName};
-ghost use Rattle.pn_registry.specs.Files.{IsFilesOf, IsShortBelow, holds_line_feed};
+ghost use Rattle.pn_registry.specs.Files.{IsFilesOf, holds_line_feed};
 ghost use Rattle.pn_registry.specs.Below.{IsWithin, AllWithin, HasFew};
 ghost use Rattle.pn_registry.specs.Listed.{file_of, placed, IsShortFile};
 ghost use Rattle.pn_registry.specs.Turns.{path_from, Takes, TakesAll, Lists, ListRefused, CallRefused, WalkRefused, GaveListings};
@@ -30,7 +30,7 @@ pub enum WalkFault {
 }
 
 /// All the files below a folder other than `/`, in no order, but for those with a line feed in their path there,
-/// where at most `limit` entries stand below it.
+/// where at most `limit` entries are below it.
 pub fn walk<R: ReadFs>(
     alloc: Global,
     registry: &mut R,

@@ -1,34 +1,27 @@
 -- What is known of what a seen manifest asks for, and of its peers.
-use Rattle.std.proofs.Common.{◌≡◌, ℕ, Bool, true, false, List, [], ◌∷◌, ◌++◌, Some, Err, refl, sym, ap, ◌∙◌, subst, map, inl, inr}
+use Rattle.std.proofs.Common.{◌≡◌, ℕ, Bool, true, false, List, [], ◌∷◌, ◌++◌, refl, sym, ap, ◌∙◌, subst, map, inl, inr}
 use Rattle.std.specs.Prelude.{◌⊎◌, not}
 use Rattle.std.proofs.lemmas.List.{map-append}
 use Rattle.std.specs.List.{Contains}
 use Rattle.std.specs.List.Sorted.{IsStrictlySortedBy}
-use Rattle.std.proofs.lemmas.List.Elements.{All-contains, All-contains_itself, All-filter, filter_passes, Contains-append_left, Contains-append_right}
+use Rattle.std.proofs.lemmas.List.Elements.{Contains-append_left, Contains-append_right}
 use Rattle.pn_text.proofs.Bools.{and_right, not_true, true_false}
 use Rattle.pn_text.proofs.Members.{none_in, from_map, to_map}
 use Rattle.pn_manifest.specs.Pairs.{Pair, names}
 use Rattle.pn_manifest.specs.declared.peers.Peer.{Peer}
 use Rattle.pn_manifest.specs.Said.{Said, AreRising, peer_names, IsRisingSaid}
 use Rattle.pn_walk.specs.declared.wish.Wish.{Wish}
+use Rattle.pn_walk.proofs.FilterLemmas.{in_filter}
 use Rattle.pn_plain.specs.Seen.{Owner, a_project, dependency_names, is_among, no_hook, no_rules, IsSeen, is_wanted, pair_of, counted, wish, put_wishes, wishes_of}
 use Rattle.pn_plain.specs.SeenLaws.{IsIn, IsOwn, IsDependency, SeenWords, IsOnce}
-use Rattle.pn_plain.specs.Told.{Told}
 use Rattle.pn_plain.specs.WishLaws.{aliases, IsWishOf, regular, dev, optional}
-use Rattle.pn_plain.proofs.SeenLemmas.{seen_law}
+use Rattle.pn_plain.proofs.SeenLemmas.{seen_words}
 use Rattle.pn_plain.proofs.WishLemmas.{wish_law, puts_rise, map_rises, alias_in, alias_is_in}
 use Rattle.pn_seen.specs.AskedLaws.{AreSoundWishes, AreSoundPeers, AskedLaw}
 use Rattle.pn_seen.proofs.CountedLemmas.{wanted, wanted_wishes}
 use Rattle.pn_seen.proofs.LeftLemmas.{left_rises}
 use Rattle.pn_seen.proofs.SearchLemmas.{any_of}
 use Rattle.pn_seen.proofs.SortLemmas.{puts_append}
-
--- nothing is told, and nothing changed
-untold : Told
-untold = record { shelf = λ n. Err 0; manifest = λ i. Err 0; hook = no_hook; overridden = λ m. Some m }
-
-words : (owner : Owner) (m s : Said) → IsSeen no_hook no_rules owner m s → SeenWords owner m s
-words owner m s h = (seen_law untold).plain owner m s h
 
 once : (owner : Owner) (m s : Said) → SeenWords owner m s → IsOnce s
 once owner m s w = record {
@@ -61,7 +54,7 @@ asked_in s n h =
 
 pub sound_wishes : (owner : Owner) (m s : Said) → IsRisingSaid m → IsSeen no_hook no_rules owner m s → AreSoundWishes m (wishes_of s)
 sound_wishes owner m s rises h =
-    let w = words owner m s h in
+    let w = seen_words owner m s h in
     record {
       rising = wish_law.rising s (wish_law.seen owner m s rises h) (once owner m s w);
       own = λ n own c. not_own owner m s n w own (asked_in s n c);
@@ -69,7 +62,7 @@ sound_wishes owner m s rises h =
 
 pub sound_peers : (owner : Owner) (m s : Said) → IsRisingSaid m → IsSeen no_hook no_rules owner m s → AreSoundPeers m (wishes_of s) s.peers
 sound_peers owner m s rises h =
-    let w = words owner m s h in
+    let w = seen_words owner m s h in
     let seen = wish_law.seen owner m s rises h in
     record {
       rising = seen.peers;
@@ -88,12 +81,9 @@ aliases_are (p ∷ ps) = ap (λ (ns : List (List ℕ)). p.name ∷ ns) (aliases_
 is_wanted_peer : (s : Said) (n : List ℕ) → Contains (aliases (wanted_wishes s)) n → (p : Peer) × Contains s.peers p × (is_wanted s p ≡ true) × (p.name ≡ n)
 is_wanted_peer s n h =
     let c : Contains (peer_names (wanted s)) n = subst (λ (ns : List (List ℕ)). Contains ns n) (aliases_are (wanted s)) (to_names n h) in
-    let r = from_map (λ (p : Peer). p.name) (wanted s) n c in (
-      r.0,
-      All-contains (Contains s.peers) (wanted s) r.0 (All-filter (is_wanted s) (Contains s.peers) s.peers (All-contains_itself s.peers)) r.1,
-      All-contains (λ (p : Peer). is_wanted s p ≡ true) (wanted s) r.0 (filter_passes (is_wanted s) s.peers) r.1,
-      r.2,
-    )
+    let r = from_map (λ (p : Peer). p.name) (wanted s) n c in
+    let k = in_filter (is_wanted s) s.peers r.0 r.1 in
+    (r.0, k.0, k.1, r.2)
   where
     to_names : (n : List ℕ) → Contains (aliases (wanted_wishes s)) n → Contains (names (map pair_of (wanted s))) n
     to_names n h = let i = alias_is_in false (map pair_of (wanted s)) n h in to_map (λ (e : Pair). e.0) (map pair_of (wanted s)) (n, i.0) i.1
@@ -183,7 +173,7 @@ with_wanted_own m s n w own h =
 pub sound_project_wishes : (auto_peers : Bool) (m s : Said) → IsRisingSaid m → IsSeen no_hook no_rules a_project m s → AreSoundWishes m (wishes_of (counted auto_peers s))
 sound_project_wishes false m s rises h = sound_wishes a_project m s rises h
 sound_project_wishes true m s rises h =
-    let w = words a_project m s h in
+    let w = seen_words a_project m s h in
     let risen = wish_law.seen a_project m s rises h in
     subst (λ (ws : List Wish). AreSoundWishes m ws) (sym (counted_wishes s)) (record {
       rising = with_wanted_rise s risen (once a_project m s w);

@@ -1,22 +1,24 @@
 -- What a search by name finds where names rise.
-use Rattle.std.proofs.Common.{◌≡◌, ◌<◌, ◌≤◌, ◌+◌, ℕ, zero, suc, true, false, List, [], ◌∷◌, length, get_or, map, refl, sym, ap, ◌∙◌, subst, arith, nat_cmp, inl, inr}
+use Rattle.std.proofs.Common.{◌≡◌, ◌<◌, ◌+◌, ℕ, true, false, List, [], ◌∷◌, length, get_or, map, refl, sym, ap, ◌∙◌, subst, arith, nat_cmp, inl, inr}
 use Rattle.std.specs.Prelude.{Result, Ok, Err, is_ok, nat_lt}
 use Rattle.std.specs.Cmp.Lexicographic.{slice_cmp}
 use Rattle.std.specs.List.{list_any, Contains}
-use Rattle.std.specs.List.Sorted.{IsStrictlySortedBy, IsSortedBy, IsSearchInRange, IsBinarySearchResult}
-use Rattle.std.specs.Ordering.{is_lt}
+use Rattle.std.specs.List.Sorted.{IsSortedBy, IsSearchInRange, IsBinarySearchResult}
+use Rattle.std.specs.Ordering.{is_lt, ordering_reverse}
 use Rattle.std.specs.Str.{bytes_eq}
-use Rattle.std.specs.declared.cmp.Ordering.TheVariants.{Less, Greater}
-use Rattle.std.proofs.lemmas.Bool.Decides.{nat_tests}
+use Rattle.std.specs.declared.cmp.Ordering.TheVariants.{Less, Equal, Greater}
+use Rattle.std.proofs.lemmas.Bool.{ltb-true, ltb-false}
 use Rattle.std.proofs.lemmas.Cmp.{nat_list_cmp_total, tied_itself}
+use Rattle.std.proofs.lemmas.List.{get_or-map, length-map}
 use Rattle.std.proofs.lemmas.List.Elements.{Contains-get_or}
 use Rattle.std.proofs.lemmas.List.Sorted.{searchable_from_sorted}
+use Rattle.std.proofs.lemmas.Map.Keys.{Less-from_sorted}
 use Rattle.std.proofs.lemmas.Map.Lookups.{exact_bytes}
 use Rattle.std.proofs.lemmas.Map.Views.{Contains-from_any}
 use Rattle.std.proofs.lemmas.Slice.Eq.{bytes_eq-Decides}
 use Rattle.pn_text.proofs.Bools.{or_right}
 use Rattle.pn_text.proofs.Members.{none_in, in_cons, from_map, to_map}
-use Rattle.pn_text.proofs.Orders.{is_less, not_before_self, not_both_before}
+use Rattle.pn_text.proofs.Orders.{not_before_self}
 use Rattle.pn_manifest.specs.Listed.{pair_of}
 use Rattle.pn_manifest.specs.Pairs.{names}
 use Rattle.pn_manifest.specs.Said.{AreRising}
@@ -36,32 +38,16 @@ none_of x ns h = elim (list_any (bytes_eq x) ns) as (λ b. list_any (bytes_eq x)
   | false ↦ λ e. refl
 ] refl
 
-not_back : (x y : List ℕ) → slice_cmp nat_cmp x y ≡ Less → is_lt (slice_cmp nat_cmp y x) ≡ false
-not_back x y h = elim (is_lt (slice_cmp nat_cmp y x)) as (λ b. is_lt (slice_cmp nat_cmp y x) ≡ b → b ≡ false) [
-  | true ↦ λ e. absurd (not_both_before x y h (is_less (slice_cmp nat_cmp y x) e))
-  | false ↦ λ e. refl
-] refl
-
-not_after_itself : (x : List ℕ) → slice_cmp nat_cmp x x ≡ Greater → ⊥
-not_after_itself x h = let same = tied_itself nat_list_cmp_total x in cc (same, h)
-
-read_on : {X : Type 0} (x : X) (xs : List X) (k : ℕ) (d : X) → get_or (x ∷ xs) (suc k + 1) d ≡ get_or xs (k + 1) d
-read_on x xs k d = let e : suc k + 1 ≡ suc (k + 1) = omega arith in ap (λ n. get_or (x ∷ xs) n d) e
-
-below : (k n : ℕ) → nat_lt k n ≡ true → k < n
-below k n e = grind (arith, nat_tests, e)
-
-not_below : (k n : ℕ) → nat_lt k n ≡ false → n ≤ k
-not_below k n e = grind (arith, nat_tests, e)
-
 module _ {X : Type 0} (key : X → List ℕ) where
   sorted : (xs : List X) → AreRising (map key xs) → IsSortedBy (λ a b. is_lt (slice_cmp nat_cmp (key a) (key b))) xs
-  unfolding IsStrictlySortedBy
-  sorted [] h k d low within = absurd (omega arith)
-  sorted (x ∷ []) h k d low within = absurd (omega arith)
-  sorted (x ∷ y ∷ xs) h zero d low within = not_back (key x) (key y) h.0.0
-  sorted (x ∷ y ∷ xs) h (suc k) d low within =
-      subst (λ z. is_lt (slice_cmp nat_cmp (key z) (key (get_or (y ∷ xs) k d))) ≡ false) (sym (read_on x (y ∷ xs) k d)) (sorted (y ∷ xs) h.1 k d (omega arith) (omega arith))
+  sorted xs h k d low within =
+      let a = key (get_or xs k d) in
+      let b = key (get_or xs (k + 1) d) in
+      let first : get_or (map key xs) k (key d) ≡ a = get_or-map key xs k d (key d) (omega arith) in
+      let second : get_or (map key xs) (k + 1) (key d) ≡ b = get_or-map key xs (k + 1) d (key d) within in
+      let rises = Less-from_sorted (slice_cmp nat_cmp) (map key xs) k (k + 1) (key d) h (omega arith) (subst (λ n. k + 1 < n) (sym (length-map xs key)) within) in
+      let less : slice_cmp nat_cmp a b ≡ Less = ap (λ x. slice_cmp nat_cmp x b) (sym first) ∙ ap (slice_cmp nat_cmp (get_or (map key xs) k (key d))) (sym second) ∙ rises in
+      ap is_lt (nat_list_cmp_total.antisymm b a ∙ ap ordering_reverse less)
 
   pub searched : (xs : List X) (n : List ℕ) (r : Result ℕ ℕ) → AreRising (map key xs) → IsSearchInRange r (length xs) → IsBinarySearchResult (λ y. slice_cmp nat_cmp (key y) n) xs r
       → is_ok r ≡ list_any (bytes_eq n) (map key xs)
@@ -77,8 +63,10 @@ module _ {X : Type 0} (key : X → List ℕ) where
       let same : key (get_or xs k y) ≡ n = ap key r.1.2 ∙ r.2 in
       let parts = parted (searchable_from_sorted nat_list_cmp_total key xs n (sorted xs rising)) in
       elim (nat_lt k at) as (λ b. nat_lt k at ≡ b → ⊥) [
-        | true ↦ λ e. not_before_self n (subst (λ z. slice_cmp nat_cmp z n ≡ Less) same (parts.0 k y (omega arith) (below k at e)))
-        | false ↦ λ e. not_after_itself n (subst (λ z. slice_cmp nat_cmp z n ≡ Greater) same (parts.1 k y (not_below k at e) r.1.1))
+        | true ↦ λ e. not_before_self n (subst (λ z. slice_cmp nat_cmp z n ≡ Less) same (parts.0 k y (omega arith) (ltb-true k at e)))
+        | false ↦ λ e.
+            let after : slice_cmp nat_cmp n n ≡ Greater = subst (λ z. slice_cmp nat_cmp z n ≡ Greater) same (parts.1 k y (ltb-false k at e) r.1.1) in
+            let clash : Equal ≡ Greater = sym (tied_itself nat_list_cmp_total n) ∙ after in cc
       ] refl))
 
 pub listed_names : (ds : List Dependency) → names (map pair_of ds) ≡ map (λ (d : Dependency). d.name) ds

@@ -9,7 +9,6 @@
 #![tactic(auto)]
 
 mod asked;
-mod copies;
 mod counts;
 mod laws;
 mod lookups;

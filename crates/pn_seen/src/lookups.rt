@@ -20,7 +20,7 @@ pub fn has(dependencies: &Dependencies, name: &PkgName) -> bool
         .is_ok()
 }
 
-// Where a dependency's name stands to a name.
+// How a dependency's name compares with a name.
 fn place(dependency: &Dependency, name: &PkgName) -> Ordering
     ensures { result ≡ slice_cmp nat_cmp dependency.now.name name.now }
 {

@@ -4,7 +4,6 @@ ghost use Rattle.pn_manifest.specs.Pairs.{names};
 ghost use Rattle.pn_manifest.specs.Says.{said_of};
 ghost use Rattle.pn_plain.specs.Seen.{but, dependency_names, own_names, peers_but};
 
-use crate::copies::{copy_of, copy_of_peer};
 use crate::lookups::{depends_on, has_either, is_own};
 use pn_manifest::{Dependencies, Manifest, Peers};
 use pn_text::{Memory, PkgName};
@@ -29,7 +28,7 @@ pub fn without(
     let mut left = Vec::new(alloc);
     for one in all.as_slice() {
         if !has_either(first, second, &one.name) {
-            left.push(copy_of(alloc, one)?)?;
+            left.push(one.copy(alloc)?)?;
         }
     }
     Ok(Dependencies::of(left))
@@ -46,7 +45,7 @@ pub fn without_own(
     let mut left = Vec::new(alloc);
     for one in all.as_slice() {
         if !is_own(own, &one.name) {
-            left.push(copy_of(alloc, one)?)?;
+            left.push(one.copy(alloc)?)?;
         }
     }
     Ok(Dependencies::of(left))
@@ -64,7 +63,7 @@ pub fn peers_left(
     let mut left = Vec::new(alloc);
     for peer in all.as_slice() {
         if !is_own(own, &peer.name) && !depends_on(before, &peer.name) {
-            left.push(copy_of_peer(alloc, peer)?)?;
+            left.push(peer.copy(alloc)?)?;
         }
     }
     Ok(Peers::of(left))

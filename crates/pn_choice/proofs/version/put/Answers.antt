@@ -1,8 +1,8 @@
-use Rattle.std.proofs.Common.{◌≡◌, ◌∙◌, ap, sym, Some, map, true, false, subst, ℕ, List}
-use Rattle.std.specs.Prelude.{not, option_map}
+use Rattle.std.proofs.Common.{◌≡◌, ◌∙◌, ap, sym, Some, map, true, false, ℕ, List}
+use Rattle.std.specs.Prelude.{not}
 use Rattle.std.specs.Str.{bytes_eq}
 use Rattle.semver.specs.Identifiers.{parts_of}
-use Rattle.pn_text.specs.Ids.{id_name, id_version, parts_text}
+use Rattle.pn_text.specs.Ids.{id_name, ok_of}
 use Rattle.pn_choice.proofs.VersionLemmas.{put_other, put_same}
 use Rattle.pn_choice.proofs.version.put.Goals as goal
 
@@ -16,5 +16,5 @@ pub returns-in_ok-push : goal.returns-in_ok-push
 returns-in_ok-push c =
     let names : not (bytes_eq c.as_str.result.now c.as_str-2.result.now) ≡ not (bytes_eq (id_name c.args.id.now) c.args.name.now) =
     ap (λ (x : List ℕ). not (bytes_eq x c.as_str-2.result.now)) (c.as_str.ensures.text ∙ c.name.ensures) ∙ ap (λ (x : List ℕ). not (bytes_eq (id_name c.args.id.now) x)) c.as_str-2.ensures.text in
-    put_same c.args.versions.now.items c.push.new.self.items c.in-Some.version c.args.name.now c.args.id.now (sym c.if-ne.false ∙ c.ne.ensures ∙ names)
-    (ap parts_text (sym c.version_text.ensures.text) ∙ sym c.in_ok-version.ensures ∙ ap (option_map parts_of) c.in-Some.is) c.in_ok-push.ensures.items
+    put_same c.args.versions.now.items c.push.new.self.items c.in_ok-version.version c.args.name.now c.args.id.now (sym c.if-ne.false ∙ c.ne.ensures ∙ names)
+    (ap ok_of c.version.ensures ∙ ap Some (sym c.in_ok-version.ensures)) c.in_ok-push.ensures.items

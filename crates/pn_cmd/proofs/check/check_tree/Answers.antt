@@ -1,4 +1,5 @@
-use Rattle.std.proofs.Common.{refl, subst, List}
+use Rattle.std.proofs.Common.{refl, subst, sym, List}
+use Rattle.pn_layout.specs.Sound.{AreSoundLinks}
 use Rattle.pn_layout.specs.declared.packages.Package.{Package}
 use Rattle.pn_cmd.specs.World.{world}
 use Rattle.pn_cmd.specs.Points.{then, Refuses}
@@ -30,13 +31,16 @@ returns-in-Err-packages-clause-refused g c said out =
     (record { value = tt; found = c.in-Ok.ensures.passed; is = refl })
     (first_refuses listed_at planned_at k mid new s (c.in-Err-packages.ensures.refused (p c.nothing_stands.new.project) out))
 
+pub plan-requires-clause-direct : goal.plan-requires-clause-direct
+plan-requires-clause-direct g c = subst AreSoundLinks (sym c.in-Ok-packages.ensures.direct) c.in-Ok-packages.ensures.packages.direct
+
 pub returns-in-Ok-plan-clause-ready : goal.returns-in-Ok-plan-clause-ready
 returns-in-Ok-plan-clause-ready g c said =
     let place = c.args.place.now in
     let plain = c.args.plain.now in
-    let items = c.in-Ok-packages.packages.items in
+    let items = c.in-Ok-packages.collected.packages.items in
     let plan = c.in-Ok-plan.plan in
-    let is = subst (λ (l : List Package). IsPlanned (sources_of place said plain l) plan) c.as_slice.ensures.value (c.in-Ok-plan.ensures.planned said) in
+    let is = subst (λ (l : List Package). IsPlanned (sources_of place said plain l) plan) c.as_slice.ensures.value (c.in-Ok-plan.ensures.planned said plain c.in-Ok-packages.ensures.direct) in
     record {
       value = graph_of place said plain;
       first = record { value = tt; found = c.in-Ok.ensures.passed; is = refl };
@@ -53,7 +57,7 @@ returns-clause-refused g c said out =
     let r = g.R.ReadFs.seen in
     let place = c.args.place.now in
     let plain = c.args.plain.now in
-    let items = c.in-Ok-packages.packages.items in
+    let items = c.in-Ok-packages.collected.packages.items in
     let k = graph_of place said plain in
     let old = world (p c.args.project.now) (r c.args.registry.now) out in
     let mid = world (p c.nothing_stands.new.project) (r c.args.registry.now) out in
@@ -65,4 +69,4 @@ returns-clause-refused g c said out =
     (second_refuses listed_at planned_at k (sources_of place said plain items) mid new new s
     (kept (p c.nothing_stands.new.project) (p c.nothing_stands.new.project) (r c.args.registry.now) (r c.packages.new.registry) out (keeps_same (p c.nothing_stands.new.project)) c.in-Ok-packages.ensures.kept)
     (record { value = items; found = c.in-Ok-packages.ensures.packages; is = refl })
-    (subst (λ (l : List Package). Refuses (TooLong (sources_of place said plain l)) new new s) c.as_slice.ensures.value (c.in-Err-plan.ensures.refused said new)))
+    (subst (λ (l : List Package). Refuses (TooLong (sources_of place said plain l)) new new s) c.as_slice.ensures.value (c.in-Err-plan.ensures.refused said plain new c.in-Ok-packages.ensures.direct)))

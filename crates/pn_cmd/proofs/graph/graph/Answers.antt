@@ -1,4 +1,8 @@
+<<<<<<< HEAD
 use Rattle.std.proofs.Common.{◌≡◌, rules, subst}
+=======
+use Rattle.std.proofs.Common.{rules, subst}
+>>>>>>> 07bf109dd3435664899aac61dbff56331736b611
 use Rattle.pn_manifest.specs.Says.{said_of}
 use Rattle.pn_choice.specs.Graphs.{IsGraphOf}
 use Rattle.pn_choice.specs.Refusals.{Unplain}
@@ -27,6 +31,5 @@ returns-clause-refused g c project out =
     let seen = g.R.ReadFs.seen in
     let m = said_of c.args.manifest in
     let refused : ChoiceRefuses (λ r f. Unplain (inputs_of m) r f) (seen c.args.registry.now) (seen c.plain.new.sources.registry.now) c.in-Err.fault = search rules in
-    let same : c.plain.new.sources.registry.now ≡ c.registry-1.given.0 = search rules in
-    subst (λ x. Refuses (HasNoGraph m) (world project (seen c.args.registry.now) out) (world project (seen x) out) c.ungraphed.result) same
+    subst {x = c.plain.new.sources.registry.now} (λ x. Refuses (HasNoGraph m) (world project (seen c.args.registry.now) out) (world project (seen x) out) c.ungraphed.result) (search rules)
     (graph_refused m project (seen c.args.registry.now) (seen c.plain.new.sources.registry.now) out c.in-Err.fault c.ungraphed.result refused c.ungraphed.ensures)

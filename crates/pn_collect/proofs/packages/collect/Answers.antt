@@ -1,8 +1,8 @@
 use Rattle.std.proofs.Common.{List, map, nat_cmp, sym, subst, IsPermutation, IsSorted}
+use Rattle.std.proofs.lemmas.Result.{err_from_is_err_and}
 use Rattle.std.specs.List.{All}
 use Rattle.std.specs.Cmp.Lexicographic.{slice_cmp}
 use Rattle.pn_text.specs.First.{FirstFails}
-use Rattle.pn_text.proofs.Results.{if_err}
 use Rattle.pn_layout.specs.Sound.{AreSoundLinks}
 use Rattle.pn_collect.specs.CollectFaults.{IsFirstRefused, NoFiles}
 use Rattle.pn_collect.specs.Outline.{bare_of, bare_id, HasPassed, IsSoundBare}
@@ -25,19 +25,19 @@ packages-requires g c =
 pub returns-clause-packages : goal.returns-clause-packages
 returns-clause-packages g c =
     let plain = c.args.plain.now in
-    packages_of (λ v. v.items) c.packages.result (g.R.ReadFs.seen c.args.registry.now).tree plain c.as_slice.result.now
+    packages_of (g.R.ReadFs.seen c.args.registry.now).tree plain c.as_slice.result.now c.in_ok-packages.packages.items
     (subst (IsPermutation (map (bare_of plain.packages) plain.packages)) (sym c.as_slice.ensures.value) c.in_ok-bare.ensures.same)
     (subst (λ (l : List Bare). IsSorted (slice_cmp nat_cmp) (map bare_id l)) (sym c.as_slice.ensures.value) c.in_ok-bare.ensures.sorted)
     (subst AreSoundLinks c.in_ok-direct.ensures.same c.in_ok-direct.ensures.sound)
-    c.packages.ensures.outlines c.packages.ensures.made c.packages.ensures.files
+    c.in_ok-packages.ensures.outlines c.in_ok-packages.ensures.made c.in_ok-packages.ensures.files
 
-pub returns-clause-refused : goal.returns-clause-refused
-returns-clause-refused g c =
+pub returns-in_err-packages-clause-refused : goal.returns-in_err-packages-clause-refused
+returns-in_err-packages-clause-refused g c =
+    let p = err_from_is_err_and c.from_residual.result c.from_residual.ensures.1 in
     let plain = c.args.plain.now in
     let bare = c.as_slice.result.now in
     let old = g.R.ReadFs.seen c.args.registry.now in
     let new = g.R.ReadFs.seen c.packages.new.registry in
-    if_err c.packages.result
-    (λ e h. refuses_by (λ r. FirstFails (HasPassed r) (NoFiles r) (map bare_id bare)) (IsFirstRefused plain) old new e
-    (first_of old.tree plain bare e (subst (IsPermutation (map (bare_of plain.packages) plain.packages)) (sym c.as_slice.ensures.value) c.in_ok-bare.ensures.same)
-    (subst (λ (l : List Bare). IsSorted (slice_cmp nat_cmp) (map bare_id l)) (sym c.as_slice.ensures.value) c.in_ok-bare.ensures.sorted)) h) c.packages.ensures.refused
+    rw (p.1, p.2) (refuses_by (λ r. FirstFails (HasPassed r) (NoFiles r) (map bare_id bare)) (IsFirstRefused plain) old new _
+    (first_of old.tree plain bare _ (subst (IsPermutation (map (bare_of plain.packages) plain.packages)) (sym c.as_slice.ensures.value) c.in_ok-bare.ensures.same)
+    (subst (λ (l : List Bare). IsSorted (slice_cmp nat_cmp) (map bare_id l)) (sym c.as_slice.ensures.value) c.in_ok-bare.ensures.sorted)) c.in_err-packages.ensures.refused)

@@ -1,6 +1,5 @@
 use Rattle.std.proofs.Common.{ap, ◌∙◌, ◌++◌, codes, refl, []}
 use Rattle.pn_text.specs.Name.{name_path}
-use Rattle.pn_text.specs.Path.{SpellsParts}
 use Rattle.pn_plan.specs.declared.planned.What.TheVariants.{Link}
 use Rattle.pn_layout.specs.Listed.{pair_of}
 use Rattle.pn_layout.specs.Store.{dir_name, beside_of}

@@ -1,7 +1,6 @@
-use Rattle.std.proofs.Common.{◌≡◌, ◌∙◌, ap, sym}
+use Rattle.std.proofs.Common.{◌∙◌, ap}
 use Rattle.std.specs.List.{list_any}
-use Rattle.std.specs.Prelude.{◌==◌, nat_eq}
-use Rattle.pn_registry.specs.Files.{holds_line_feed}
+use Rattle.std.specs.Prelude.{nat_eq}
 use Rattle.pn_registry.proofs.LineFeeds.{spelled_feeds}
 use Rattle.pn_registry.proofs.walk.has_line_feed.Goals as goal
 
