@@ -3,6 +3,8 @@ use Rattle.std.specs.Prelude.{◌≡◌, ℕ, List, Option, None, Some, IfSome, 
 use Rattle.pn_glob.specs.Matching.{is_bare}
 use Rattle.pn_text.specs.Path.{Path, path_text, same_path}
 use Rattle.pn_fs.specs.Tree.{Tree}
+use Rattle.pn_manifest.specs.Values.{or_else}
+use Rattle.pn_choice.specs.Built.{where_filled}
 use Rattle.pn_config.specs.declared.config.Config.{Config}
 use Rattle.pn_workspace.specs.Laws.{IsOwn}
 use Rattle.pn_workspace.specs.Workspaces.{Fits, IsWorkspace, NoWorkspace}
@@ -13,7 +15,6 @@ use Rattle.pn_cmd.specs.declared.status.FileWhy.TheVariants.{Workspace as of_wor
 use Rattle.pn_cmd.specs.declared.status.Which.TheVariants.{Text, Path as PathLength}
 use Rattle.pn_cmd.specs.declared.status.Status.{Status}
 use Rattle.pn_cmd.specs.declared.status.Status.TheVariants.{Memory, Manifest as BadManifest, Limit, ProjectFault, NotYet}
-use Rattle.pn_cmd.specs.Manifests.{if_some, or_else}
 use Rattle.pn_cmd.specs.Points.{Point}
 use Rattle.pn_cmd.specs.World.{Shown}
 
@@ -27,7 +28,7 @@ space_status NoMemory = Memory
 
 -- the first setting that isn't built yet
 abbrev pub unbuilt_key : Config → Option (List ℕ)
-unbuilt_key c = or_else (if is_bare c.packages then None else Some (codes "packages")) (or_else (if_some c.catalogs (codes "catalogs")) (if_some c.overrides (codes "overrides")))
+unbuilt_key c = or_else (if is_bare c.packages then None else Some (codes "packages")) (or_else (where_filled c.catalogs (codes "catalogs")) (where_filled c.overrides (codes "overrides")))
 
 -- What of a workspace isn't built yet: a root that isn't the folder itself, told by its path; or a setting.
 abbrev pub unbuilt_space : Path → Workspace → Option (List ℕ)

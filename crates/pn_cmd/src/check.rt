@@ -20,11 +20,8 @@ use crate::standing::nothing_stands;
 use crate::status::Status;
 use crate::store::default_store;
 use crate::words::is_install;
-<<<<<<< HEAD
 use crate::workspace::workspace;
-=======
 use pn_collect::Collected;
->>>>>>> 07bf109dd3435664899aac61dbff56331736b611
 use pn_fs::ReadFs;
 use pn_graph::Plain;
 use pn_manifest::Manifest;

@@ -1,9 +1,5 @@
 // The point of the project's manifest.
-<<<<<<< HEAD
-ghost use Rattle.std.specs.Prelude.{◌≡◌, ◌≤◌, ◌∷◌, ℕ, List, length, IfOk, IfErr, IfSome, option_map};
-=======
-ghost use Rattle.std.specs.Prelude.{◌≡◌, ◌⊎◌, ◌≤◌, ◌∷◌, ℕ, List, length, IfOk, IfErr, IfSome};
->>>>>>> 07bf109dd3435664899aac61dbff56331736b611
+ghost use Rattle.std.specs.Prelude.{◌≡◌, ◌≤◌, ◌∷◌, ℕ, List, length, IfOk, IfErr, IfSome};
 ghost use Rattle.pn_text.specs.declared.limits.TheConstants.{PATH_LIMIT};
 ghost use Rattle.pn_text.specs.Path.{path_text};
 ghost use Rattle.pn_fs.specs.Seen.{Seen, Taken, Keeps};
@@ -17,11 +13,8 @@ ghost use Rattle.pn_cmd.specs.Manifests.{NoManifest, Declares, IsText, FoundIn, 
 
 use crate::entry::{EntryFault, entry};
 use crate::status::{FileWhy, Status, Which};
-<<<<<<< HEAD
 use crate::workspace::not_yet;
-=======
 use pn_choice::unbuilt_field;
->>>>>>> 07bf109dd3435664899aac61dbff56331736b611
 use pn_fs::ReadFs;
 use pn_manifest::{Manifest, ManifestFault, ManifestWhy};
 use pn_read::{SmallFault, read_small};
@@ -84,30 +77,6 @@ fn parse(alloc: Global, path: &AbsPath, bytes: &[u8]) -> Result<Manifest, Status
         Some(field) => Err(not_yet(alloc, field)),
         None => Ok(manifest),
     }
-}
-
-<<<<<<< HEAD
-// The first field that stands and isn't built yet.
-fn unbuilt_field(manifest: &Manifest) -> Option<&str>
-    ensures { option_map (λ t. t.now) result ≡ unbuilt_field (said_of manifest.now) }
-{
-    if !manifest.overrides.is_empty() {
-        return Some("pnpm.overrides");
-    }
-    if !manifest.peers.is_empty() {
-        return Some("peerDependencies");
-    }
-    None
-=======
-// The status for a field that isn't built yet.
-fn not_yet(alloc: Global, field: &str) -> Status
-    ensures { (result ≡ Status.NotYet field.now) ⊎ (result ≡ Status.Memory) }
-{
-    match Text::of(alloc, field) {
-        Ok(text) => Status::NotYet(text),
-        Err(_) => Status::Memory,
-    }
->>>>>>> 07bf109dd3435664899aac61dbff56331736b611
 }
 
 // The status for a refused manifest.

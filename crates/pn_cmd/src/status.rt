@@ -43,11 +43,7 @@ pub enum Status {
     RegistryFault,
     /// The output took the report in part or not at all.
     SinkFault,
-<<<<<<< HEAD
-    /// The path, field, setting, specifier or id is valid and isn't built yet.
-=======
-    /// The path, field, specifier or package's id is valid and isn't built yet.
->>>>>>> 07bf109dd3435664899aac61dbff56331736b611
+    /// The path, field, setting, specifier or package's id is valid and isn't built yet.
     NotYet(Text),
 }
 

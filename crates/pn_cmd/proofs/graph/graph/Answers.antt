@@ -1,8 +1,4 @@
-<<<<<<< HEAD
-use Rattle.std.proofs.Common.{◌≡◌, rules, subst}
-=======
 use Rattle.std.proofs.Common.{rules, subst}
->>>>>>> 07bf109dd3435664899aac61dbff56331736b611
 use Rattle.pn_manifest.specs.Says.{said_of}
 use Rattle.pn_choice.specs.Graphs.{IsGraphOf}
 use Rattle.pn_choice.specs.Refusals.{Unplain}
