@@ -202,3 +202,13 @@ fn a_peer_is_free_in_those_that_depend_on_its_package(rt: HostRuntime) -> Result
     assert!(rt; free_names(alloc, &p, PkgIx(3))?.is_empty());
     Ok(())
 }
+
+#[test]
+fn a_peer_whose_specifier_is_no_range_is_read(rt: HostRuntime) -> Result<(), Fail> {
+    let alloc = rt.alloc();
+    for text in ["latest", "workspace:*", "npm:b@1"] {
+        let peer = Peer::of(alloc, name(alloc, "p")?, Text::of(alloc, text)?, false)?;
+        assert_eq!(rt; peer.text.as_str(), text);
+    }
+    Ok(())
+}

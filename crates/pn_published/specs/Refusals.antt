@@ -57,7 +57,7 @@ NoneSaid o Entries = ⊥
 NoneSaid o Fault = ⊥
 NoneSaid o Memory = Unit {0}
 
--- A tree publishes one shelf under a name, or there is one reason why it doesn't.
+-- A tree publishes at most one shelf under a name, there is at most one reason why it doesn't, and never both.
 pub record PublishedLaw : Type 0 where
   pub one : (t : Tree) (name : List ℕ) (a b : Shelf) → IsPublished t name a → IsPublished t name b → a ≡ b
   pub why : (t : Tree) (name : List ℕ) (e f : PublishedFault) → IsUnpublished t (name_path name) e → IsUnpublished t (name_path name) f → e ≡ f

@@ -2,7 +2,7 @@
 ghost use Rattle.pn_published.specs.Choice.{ChoiceLaw};
 ghost use Rattle.pn_published.specs.Refusals.{PublishedLaw};
 
-/// A tree publishes one shelf under a name, or there is one reason why it doesn't.
+/// A tree publishes at most one shelf under a name, there is at most one reason why it doesn't, and never both.
 pub fn published_law()
     ensures { PublishedLaw }
 {}

@@ -14,7 +14,7 @@ ghost use Rattle.pn_registry.specs.Turns.{path_from, Takes, TakesAll, Lists, Lis
 
 use crate::list::PackageFile;
 use pn_fs::{Kind, ReadFs};
-use pn_text::{AbsPath, DevFault, Memory, RelPath, Text};
+use pn_text::{AbsPath, DevFault, Memory, PathFault, RelPath, Text};
 use std::alloc::{AllocFailed, Global};
 use thiserror::Error;
 
@@ -181,7 +181,8 @@ fn child(alloc: Global, parent: &AbsPath, name: &str) -> Result<AbsPath, WalkFau
 {
     match parent.child(alloc, name) {
         Ok(path) => Ok(path),
-        Err(_) => Err(WalkFault::Memory),
+        Err(PathFault::Memory) => Err(WalkFault::Memory),
+        Err(_) => unreachable!(),
     }
 }
 
