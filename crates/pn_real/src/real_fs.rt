@@ -4,21 +4,15 @@ ghost use Rattle.pn_real.specs.Told.{untold_tree, no_tree, no_finite_tree};
 
 use crate::faults::counted;
 use crate::names::names;
+use crate::opened::{Opened, append_bytes, is_open};
 use pn_fs::{Fs, Kind, ReadFs};
 use pn_text::{AbsPath, DevFault, Text};
 use std::alloc::Global;
 use std::fs::File;
-use std::io::{ErrorKind, Write};
+use std::io::ErrorKind;
 use std::os::unix::fs::{FileExt, symlink};
 use std::rt::Files;
 use std::{fs, io};
-
-// A file that stays open for the calls to come.
-#[derive(Drop)]
-struct Opened {
-    path: String,
-    file: File,
-}
 
 /// The file system whose `/` is a folder of the real one. It tells nothing of what it holds.
 #[derive(Drop)]
@@ -101,13 +95,6 @@ fn reopen<R: Files<File = File>>(
     Ok(())
 }
 
-fn is_open(opened: &Option<Opened>, path: &str) -> bool {
-    match opened {
-        Some(one) => one.path.as_str() == path,
-        None => false,
-    }
-}
-
 fn piece<R: Files<File = File>>(
     rt: &R,
     opened: &mut Option<Opened>,
@@ -134,23 +121,6 @@ fn create_file<R: Files<File = File>>(
     let file = fs::create(rt, path.as_str())?;
     *opened = Some(Opened { path, file });
     Ok(())
-}
-
-fn append_bytes<R: Files<File = File>>(
-    rt: &R,
-    opened: &mut Option<Opened>,
-    path: String,
-    bytes: &[u8],
-) -> io::Result<()> {
-    if !is_open(opened, path.as_str()) {
-        *opened = None;
-        let file = fs::OpenOptions::new().append(true).open(rt, path.as_str())?;
-        *opened = Some(Opened { path, file });
-    }
-    match opened {
-        Some(one) => one.file.write_all(bytes),
-        None => Err(io::Error::from(ErrorKind::NotFound)),
-    }
 }
 
 impl<R: Files<File = File> + Alloc<A = Global> + Clone + Drop> ReadFs for RealFs<R> {

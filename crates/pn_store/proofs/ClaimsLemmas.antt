@@ -1,5 +1,5 @@
 -- Lemmas on numbers that are tried.
-use Rattle.std.proofs.Common.{◌≡◌, ◌≢◌, ◌≤◌, ◌+◌, ℕ, sym, subst, arith, Bool, true, false, Option, None, Result, Ok, Err, inl, inr, eq-or-lt_of_le}
+use Rattle.std.proofs.Common.{◌≡◌, ◌≢◌, ◌≤◌, ◌<◌, ◌+◌, ℕ, sym, subst, arith, Bool, true, false, Option, None, Result, Ok, Err, inl, inr, eq-or-lt_of_le}
 use Rattle.std.specs.Prelude.{IfOk, OnErr}
 use Rattle.std.specs.Bool.{OnTrue, OnFalse}
 use Rattle.pn_text.specs.declared.fault.DevFault.{DevFault}
@@ -8,10 +8,13 @@ use Rattle.pn_storecore.specs.Seen.{Seen, Keeps}
 use Rattle.pn_storecore.specs.Calls.{Answers, IsClaim}
 use Rattle.pn_storecore.specs.Held.{Holds, no_files}
 use Rattle.pn_storecore.specs.Grew.{Grew, Stood, TookNone}
-use Rattle.pn_storecore.specs.CallLaws.{HoldsLaw, DidLaw, ClaimsLaw}
+use Rattle.pn_storecore.specs.CallLaws.{HoldsLaw, DidLaw, ClaimsLaw, LeavesLaw}
 use Rattle.pn_storecore.proofs.UpdateLemmas.{at_number}
 use Rattle.pn_text.proofs.Results.{on_err}
-use Rattle.pn_store.specs.Claims.{IsClaimed, IsTried, AreTaken}
+use Rattle.pn_store.specs.declared.number.TheConstants.{NUMBERS}
+use Rattle.pn_store.specs.Own.{IsClaimStep}
+use Rattle.pn_store.specs.Claims.{IsClaimed, IsFirst, IsTried, IsLeft, OnlyClaims, AreTaken}
+use Rattle.pn_store.proofs.MadeLemmas.{made_call, made_none, made_both}
 
 none_at : ℕ → Option ℕ
 none_at q = None
@@ -47,18 +50,35 @@ others did claims old new k r false is keeps step = λ j. elim (at_number none_a
 ]
 
 -- one that was refused
-pub tried : HoldsLaw → DidLaw → ClaimsLaw → (old new : Seen) (k : ℕ) (r : Result Bool DevFault) → Keeps old new → Answers old (Claim k) new r (IsClaim k) → OnErr r (IsTried old new)
+pub tried : HoldsLaw → DidLaw → ClaimsLaw → (old new : Seen) (k : ℕ) (r : Result Bool DevFault) → Keeps old new → Answers old (Claim k) new r (IsClaim k) → OnErr r (IsTried k old new)
 tried holds did claims old new k r keeps step = on_err r (λ h. elim h [
-  | inl held ↦ inr (k, subst (Holds new k) (sym (holds.emptied 0)) held, not_other did claims old new k r keeps step)
+  | inl held ↦ inr (subst (Holds new k) (sym (holds.emptied 0)) held, not_other did claims old new k r keeps step)
   | inr none ↦ inl (λ j. elim (at_number none_at j None k) [ inl e ↦ subst (λ n. TookNone n old new) (sym e.0) none | inr e ↦ not_other did claims old new k r keeps step j e.0 ])
 ]) (claims.refused old new k r keeps step)
 
--- before it all the numbers were taken
-pub tried_behind : ClaimsLaw → (a b c : Seen) → ((j : ℕ) → TookNone j a b) → IsTried b c → IsTried a c
-tried_behind claims a b c none h = elim h [
-  | inl more ↦ inl (λ j. claims.both a b c j (none j) (more j))
-  | inr h ↦ inr (h.0, h.1, λ j apart. claims.both a b c j (none j) (h.2 j apart))
+-- before it all smaller numbers were taken
+pub tried_behind : ClaimsLaw → (k : ℕ) (a b c : Seen) → k < NUMBERS → AreTaken k a b → Grew b c → IsTried k b c → IsLeft a c
+tried_behind claims k a b c within taken grew h = elim h [
+  | inl more ↦ inl (λ j. claims.both a b c j (taken.others j) (more j))
+  | inr h ↦ inr (
+    k,
+    record { within = within; stood = λ j below. claims.stood_behind a b c j (taken.stood j below) grew },
+    h.0,
+    λ j apart. claims.both a b c j (taken.others j) (h.1 j apart),
+  )
 ]
+
+-- a claim leaves what was held
+pub only_claim : DidLaw → LeavesLaw → (old new : Seen) (k : ℕ) (r : Result Bool DevFault) → Keeps old new → Answers old (Claim k) new r (IsClaim k) → OnlyClaims old new
+only_claim did leaves old new k r keeps step =
+    let called = did.claim old new k r keeps step in
+    record { held = λ j files held. leaves old new (Claim k) j files called tt held; own = made_call IsClaimStep old new (Claim k) called tt (λ q n x y h. h) }
+
+pub only_none : (a : Seen) → OnlyClaims a a
+only_none a = record { held = λ j files held. held; own = made_none IsClaimStep a }
+
+pub only_both : (a b c : Seen) → OnlyClaims a b → OnlyClaims b c → OnlyClaims a c
+only_both a b c first second = record { held = λ j files held. second.held j files (first.held j files held); own = made_both IsClaimStep a b c first.own second.own }
 
 pub claimed_behind : ClaimsLaw → (k : ℕ) (a b c : Seen) → Grew a b → ((j : ℕ) → TookNone j a b) → IsClaimed k b c → IsClaimed k a c
 claimed_behind claims k a b c grew none h = record {

@@ -1,7 +1,9 @@
+pub mod MadeLemmas
+pub mod LeavesLemmas
 pub mod HeldLemmas
 pub mod ClaimsLemmas
 pub mod ReadsLemmas
 pub mod BeginsLemmas
 pub mod PutsLemmas
 pub mod MetLemmas
-pub mod PublishedLemmas
+pub mod FoundLemmas

@@ -6,18 +6,24 @@ use Rattle.pn_fs.specs.Tree.{Tree, file}
 use Rattle.pn_fs.specs.Seen.{Seen as Source, Keeps}
 use Rattle.pn_storecore.specs.declared.step.Place.{Place}
 use Rattle.pn_storecore.specs.declared.step.Place.TheVariants.{Files}
+use Rattle.pn_storecore.specs.declared.step.StoreStep.TheVariants.{PublishFile}
+use Rattle.sha2.specs.Sha512.{sha512}
 use Rattle.pn_storecore.specs.Seen.{Seen}
-use Rattle.pn_storecore.specs.Held.{Holds, TempFiles, files_with, no_files}
+use Rattle.pn_storecore.specs.Held.{files_with, no_files}
 use Rattle.pn_storecore.specs.Grew.{Grew}
-use Rattle.pn_storecore.specs.CallLaws.{GrewLaw, WasLaw}
+use Rattle.pn_storecore.specs.CallLaws.{GrewLaw, ClaimsLaw, WasLaw}
 use Rattle.pn_store.specs.declared.compare.Met.{Met}
 use Rattle.pn_store.specs.declared.compare.Met.TheVariants as met
 use Rattle.pn_store.specs.declared.fault.PutFault.{PutFault}
 use Rattle.pn_store.specs.declared.fault.PutFault.TheVariants.{StoreFault, SourceFault, TooLarge, Clash, Memory}
+use Rattle.pn_store.specs.Own.{IsPutStep, PublishedNone, PublishedAtMost}
+use Rattle.pn_store.specs.Leaves.{LeavesAll}
 use Rattle.pn_store.specs.Held.{Works}
 use Rattle.pn_store.specs.Reads.{StoodThere}
 use Rattle.pn_store.specs.Faults.{IsLong, FileRefused, PutRefused}
-use Rattle.pn_store.specs.Puts.{IsFound, IsMet, IsSource, absent, same, other, long}
+use Rattle.pn_store.specs.Puts.{IsFound, IsMet, IsSource, PutAtMost, absent, same, other, long}
+use Rattle.pn_store.proofs.MadeLemmas.{made_both, reads_put}
+use Rattle.pn_store.proofs.LeavesLemmas.{others_both, all_others}
 
 -- what was met behind other calls, and before them
 pub stood_before : WasLaw → (a b c : Seen) (place : Place) (at bytes : List ℕ) → Grew a b → StoodThere place at bytes b c → StoodThere place at bytes a c
@@ -69,9 +75,19 @@ as_put p from gone old new (Clash at) h = absurd h
 as_put p from gone old new Memory h = h
 
 -- a held folder after calls that left it
-pub works_left : GrewLaw → (k : ℕ) (a b c : Seen) → Works k a b → ((j : ℕ) (files : TempFiles) → Holds b j files → Holds c j files) → Grew b c → b.faults ≤ c.faults → Works k a c
-works_left laws k a b c w left grew later = record {
-  held = (w.held.0, left k (files_with no_files 0 w.held.0) w.held.1);
-  grew = laws.both a b c w.grew grew;
+pub works_left : GrewLaw → ClaimsLaw → (k : ℕ) (a b c : Seen) → Works k a b → LeavesAll b c → Grew b c → b.faults ≤ c.faults → Works k a c
+works_left grew claims k a b c w left more later = record {
+  held = (w.held.0, left.held k (files_with no_files 0 w.held.0) w.held.1);
+  others = others_both claims k a b c w.others (all_others k b c left);
+  own = made_both (IsPutStep k) a b c w.own (reads_put k b c left.own);
+  grew = grew.both a b c w.grew more;
   later = omega (arith, w.later, later);
 }
+
+-- a refusal before anything was published
+pub put_none : (source : Option Tree) (p : Path) (k : ℕ) (old new : Seen) → PublishedNone old new → PutAtMost source p k old new
+put_none source p k old new h = inl h
+
+-- a refusal of the put's own publish
+pub put_some : (source : Option Tree) (p : Path) (k : ℕ) (old new : Seen) (bytes at : List ℕ) → at ≡ sha512 bytes → IsSource source p bytes → PublishedAtMost (PublishFile k 0 at) old new → PutAtMost source p k old new
+put_some source p k old new bytes at digest from h = inr (bytes, from, subst (λ d. PublishedAtMost (PublishFile k 0 d) old new) digest h)

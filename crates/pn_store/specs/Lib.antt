@@ -1,7 +1,8 @@
+pub mod Own
+pub mod Leaves
 pub mod Held
 pub mod Reads
 pub mod Begins
-pub mod Published
 pub mod Puts
 pub mod Faults
 pub mod Claims

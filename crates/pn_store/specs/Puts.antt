@@ -1,15 +1,16 @@
 -- What a put of a file leaves.
-use Rattle.std.specs.Prelude.{◌≡◌, ◌≢◌, ◌≤◌, ◌<◌, ℕ, List, Option, IfSome, Some, None, length}
+use Rattle.std.specs.Prelude.{◌≡◌, ◌≢◌, ◌⊎◌, ◌≤◌, ◌<◌, ℕ, List, Option, IfSome, Some, None, length}
 use Rattle.sha2.specs.Sha512.{sha512}
 use Rattle.pn_text.specs.declared.limits.TheConstants.{FILE_LIMIT}
 use Rattle.pn_text.specs.Path.{Path}
 use Rattle.pn_fs.specs.Tree.{Tree, file}
 use Rattle.pn_storecore.specs.declared.step.Place.TheVariants.{Files}
+use Rattle.pn_storecore.specs.declared.step.StoreStep.TheVariants.{PublishFile}
 use Rattle.pn_storecore.specs.Seen.{Seen}
 use Rattle.pn_storecore.specs.Held.{HasObject}
 use Rattle.pn_storecore.specs.Grew.{Grew, Was}
 use Rattle.pn_store.specs.Held.{HoldsFile}
-use Rattle.pn_store.specs.Published.{PublishedNone}
+use Rattle.pn_store.specs.Own.{PublishedNone, PublishedAtMost}
 use Rattle.pn_store.specs.Reads.{StoodThere}
 use Rattle.pn_store.specs.declared.compare.Met.{Met}
 use Rattle.pn_store.specs.declared.compare.Met.TheVariants as met
@@ -27,7 +28,7 @@ pub data IsMet (source : Option Tree) (p : Path) (at : List ℕ) (old new : Seen
   other : (stored : List ℕ) → sha512 stored ≢ at → StoodThere Files at stored old new → IsMet source p at old new
   long : (stored : List ℕ) → FILE_LIMIT < length stored → StoodThere Files at stored old new → IsMet source p at old new
 
--- It was met before this installer moved a file to an address.
+-- It was met before this installer moved something to an address.
 pub record MetFirst (source : Option Tree) (p : Path) (at : List ℕ) (old new : Seen) : Type 0 where
   pub mid : Seen
   pub unpublished : PublishedNone old mid
@@ -51,6 +52,10 @@ pub record IsPut (source : Option Tree) (p : Path) (old new : Seen) (put : Put) 
   pub met : MetFirst source p put.digest old new
   pub was : Was Files put.digest (Some bytes) old new
   pub stands : HasObject new Files put.digest
+
+-- Nothing was published, or at most the source's bytes, at the address that they have.
+abbrev pub PutAtMost : Option Tree → Path → ℕ → Seen → Seen → Type 0
+PutAtMost source p k old new = PublishedNone old new ⊎ ((bytes : List ℕ) × IsSource source p bytes × PublishedAtMost (PublishFile k 0 (sha512 bytes)) old new)
 
 -- The file of a held folder has the source's bytes, and the put tells their digest and length.
 pub record IsFilled (source : Option Tree) (p : Path) (k : ℕ) (s : Seen) (put : Put) : Type 0 where

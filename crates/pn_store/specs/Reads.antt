@@ -4,14 +4,14 @@ use Rattle.std.specs.Option.{option_map}
 use Rattle.std.specs.Global.{Global}
 use Rattle.sha2.specs.Sha512.{sha512}
 use Rattle.pn_text.specs.Causes.{Rose}
-use Rattle.pn_digest.specs.Listing.{IsListingText}
+use Rattle.pn_digest.specs.Listing.{IsListingText, Names}
 use Rattle.pn_storecore.specs.declared.step.Place.TheVariants.{Files, Listings}
 use Rattle.pn_store.specs.declared.fault.ReadFault.{ReadFault}
 use Rattle.pn_store.specs.declared.fault.ReadFault.TheVariants.{Fault, Damaged, Memory}
 use Rattle.pn_storecore.specs.declared.step.Place.{Place}
 use Rattle.pn_storecore.specs.Seen.{Seen}
 use Rattle.pn_storecore.specs.Sound.{MayStand}
-use Rattle.pn_storecore.specs.Held.{IsAddressedStore}
+use Rattle.pn_storecore.specs.Held.{HasObject, IsAddressedStore, IsSoundStore}
 use Rattle.pn_storecore.specs.Grew.{Grew, Was, ReadTo}
 
 -- At steps between, two different byte lists stood at the address.
@@ -71,3 +71,8 @@ ListingRefused at old new e = ReadRefused old new e
 -- In a told store that isn't damaged, bytes that stood there are right for their address, unless others stood there too.
 abbrev pub WrongLaw : Type 0
 WrongLaw = (place : Place) (at bytes : List ℕ) (old new : Seen) → Grew old new → IsAddressedStore old → StoodThere place at bytes old new → IfSome old.journal (λ j. MayStand place at bytes ⊎ Changed place at old new)
+
+-- In a told store that was sound, each file that a listing names which stood there stands at the end, unless another
+-- listing stood there too.
+abbrev pub FoundLaw : Type 0
+FoundLaw = (at text : List ℕ) (old new : Seen) → Grew old new → IsSoundStore old → StoodThere Listings at text old new → IfSome old.journal (λ j. ((file : List ℕ) → Names text file → HasObject new Files file) ⊎ Changed Listings at old new)

@@ -6,16 +6,19 @@ ghost use Rattle.pn_digest.specs.Listing.{IsListingText, Names};
 ghost use Rattle.pn_storecore.specs.declared.step.Place.TheVariants.{Files, Listings};
 ghost use Rattle.pn_storecore.specs.World.{first_byte};
 ghost use Rattle.pn_storecore.specs.Stored.{IsStoredFile};
-ghost use Rattle.pn_storecore.specs.Held.{Holds, HasShard, HasBytes, HasObject, TempFiles};
+ghost use Rattle.pn_storecore.specs.Held.{HasShard, HasBytes, HasObject};
 ghost use Rattle.pn_storecore.specs.Grew.{Grew, ReadTo};
 ghost use Rattle.pn_store.specs.Held.{HoldsFile, IsHeld, Works};
 ghost use Rattle.pn_store.specs.Faults.{StoreRefuses};
-ghost use Rattle.pn_store.specs.Published.{PublishedNone};
+ghost use Rattle.pn_storecore.specs.declared.step.StoreStep.TheVariants as step;
+ghost use Rattle.pn_store.specs.Own.{Made, IsDropOf, PublishedNone, PublishedOne, PublishedAtMost};
+ghost use Rattle.pn_store.specs.Leaves.{LeavesAll};
 
 use crate::fault::{PutFault, of_store};
 use pn_digest::Digest;
 use pn_storecore::{
-    Place, StoreDisk, asks_law, did_law, grew_law, holds_law, leaves_law, stands_law, was_law,
+    Place, StoreDisk, asks_law, claims_law, did_law, grew_law, holds_law, leaves_law, stands_law,
+    was_law,
 };
 use pn_text::DevFault;
 
@@ -23,7 +26,7 @@ use pn_text::DevFault;
 pub fn drop_file<D: StoreDisk>(disk: &mut D, k: u32) -> Result<(), PutFault>
     requires { IsHeld (D.seen disk.old) k }
     ensures ok { OnOk result (HoldsFile (D.seen disk.new) k None) }
-    ensures unpublished { PublishedNone (D.seen disk.old) (D.seen disk.new) }
+    ensures drops { Made (IsDropOf k) (D.seen disk.old) (D.seen disk.new) }
     ensures works { Works k (D.seen disk.old) (D.seen disk.new) }
     ensures fault { IfErr result (StoreRefuses (D.seen disk.old) (D.seen disk.new)) }
 {
@@ -31,6 +34,8 @@ pub fn drop_file<D: StoreDisk>(disk: &mut D, k: u32) -> Result<(), PutFault>
     holds_law();
     did_law();
     grew_law();
+    leaves_law();
+    claims_law();
     of_store(disk.drop_temp(k, Some(0)))
 }
 
@@ -46,6 +51,8 @@ pub fn create<D: StoreDisk>(disk: &mut D, k: u32) -> Result<(), PutFault>
     holds_law();
     did_law();
     grew_law();
+    leaves_law();
+    claims_law();
     of_store(disk.create(k, 0))
 }
 
@@ -53,11 +60,12 @@ pub fn create<D: StoreDisk>(disk: &mut D, k: u32) -> Result<(), PutFault>
 pub fn start<D: StoreDisk>(disk: &mut D, k: u32) -> Result<(), PutFault>
     requires { IsHeld (D.seen disk.old) k }
     ensures ok { OnOk result (HoldsFile (D.seen disk.new) k (Some [])) }
-    ensures unpublished { OnOk result (PublishedNone (D.seen disk.old) (D.seen disk.new)) }
+    ensures unpublished { PublishedNone (D.seen disk.old) (D.seen disk.new) }
     ensures works { Works k (D.seen disk.old) (D.seen disk.new) }
     ensures fault { IfErr result (StoreRefuses (D.seen disk.old) (D.seen disk.new)) }
 {
     grew_law();
+    claims_law();
     drop_file(disk, k)?;
     create(disk, k)
 }
@@ -74,6 +82,8 @@ pub fn append<D: StoreDisk>(disk: &mut D, k: u32, more: &[u8]) -> Result<(), Put
     holds_law();
     did_law();
     grew_law();
+    leaves_law();
+    claims_law();
     of_store(disk.append(k, 0, more))
 }
 
@@ -82,6 +92,7 @@ pub fn shard<D: StoreDisk>(disk: &mut D, k: u32, place: Place, first: u8) -> Res
     requires { IsHeld (D.seen disk.old) k }
     ensures ok { OnOk result (HasShard (D.seen disk.new) place first) }
     ensures left { (b : Option (List ℕ)) → HoldsFile (D.seen disk.old) k b → HoldsFile (D.seen disk.new) k b }
+    ensures unpublished { PublishedNone (D.seen disk.old) (D.seen disk.new) }
     ensures works { Works k (D.seen disk.old) (D.seen disk.new) }
     ensures fault { IfErr result (StoreRefuses (D.seen disk.old) (D.seen disk.new)) }
 {
@@ -89,6 +100,7 @@ pub fn shard<D: StoreDisk>(disk: &mut D, k: u32, place: Place, first: u8) -> Res
     did_law();
     leaves_law();
     grew_law();
+    claims_law();
     of_store(disk.shard(place, first))
 }
 
@@ -97,6 +109,9 @@ pub fn publish_file<D: StoreDisk>(disk: &mut D, k: u32, at: &Digest) -> Result<(
     requires holds { (bytes : List ℕ) × HoldsFile (D.seen disk.old) k (Some bytes) × IsStoredFile at.now bytes }
     requires shard { HasShard (D.seen disk.old) Files (first_byte at.now) }
     ensures stands { (bytes : List ℕ) → HoldsFile (D.seen disk.old) k (Some bytes) → OnOk result (HasBytes (D.seen disk.new) Files at.now bytes) }
+    ensures empty { OnOk result (HoldsFile (D.seen disk.new) k None) }
+    ensures published { OnOk result (PublishedOne (step.PublishFile k 0 at.now) (D.seen disk.old) (D.seen disk.new)) }
+    ensures at_most { PublishedAtMost (step.PublishFile k 0 at.now) (D.seen disk.old) (D.seen disk.new) }
     ensures works { Works k (D.seen disk.old) (D.seen disk.new) }
     ensures fault { IfErr result (StoreRefuses (D.seen disk.old) (D.seen disk.new)) }
 {
@@ -105,6 +120,8 @@ pub fn publish_file<D: StoreDisk>(disk: &mut D, k: u32, at: &Digest) -> Result<(
     stands_law();
     did_law();
     grew_law();
+    leaves_law();
+    claims_law();
     of_store(disk.publish_file(k, 0, at))
 }
 
@@ -113,6 +130,9 @@ pub fn publish_listing<D: StoreDisk>(disk: &mut D, k: u32, at: &Digest) -> Resul
     requires holds { (text : List ℕ) × HoldsFile (D.seen disk.old) k (Some text) × (sha512 text ≡ at.now) × IsListingText text × ((file : List ℕ) → Names text file → HasObject (D.seen disk.old) Files file) }
     requires shard { HasShard (D.seen disk.old) Listings (first_byte at.now) }
     ensures stands { (text : List ℕ) → HoldsFile (D.seen disk.old) k (Some text) → OnOk result (HasBytes (D.seen disk.new) Listings at.now text) }
+    ensures empty { OnOk result (HoldsFile (D.seen disk.new) k None) }
+    ensures published { OnOk result (PublishedOne (step.PublishListing k 0 at.now) (D.seen disk.old) (D.seen disk.new)) }
+    ensures at_most { PublishedAtMost (step.PublishListing k 0 at.now) (D.seen disk.old) (D.seen disk.new) }
     ensures works { Works k (D.seen disk.old) (D.seen disk.new) }
     ensures fault { IfErr result (StoreRefuses (D.seen disk.old) (D.seen disk.new)) }
 {
@@ -121,6 +141,8 @@ pub fn publish_listing<D: StoreDisk>(disk: &mut D, k: u32, at: &Digest) -> Resul
     stands_law();
     did_law();
     grew_law();
+    leaves_law();
+    claims_law();
     of_store(disk.publish_listing(k, 0, at))
 }
 
@@ -135,15 +157,17 @@ pub fn read<D: StoreDisk>(
     requires { 0 < length into.old }
     ensures within { IfOk result (λ found. IfSome found (λ n. n ≤ length into.old)) }
     ensures read { IfOk result (λ found. IfSome (D.seen disk.old).journal (λ j. ReadTo place at.now from into.new found j (D.seen disk.new).journal)) }
-    ensures left { (k : ℕ) (files : TempFiles) → Holds (D.seen disk.old) k files → Holds (D.seen disk.new) k files }
-    ensures unpublished { PublishedNone (D.seen disk.old) (D.seen disk.new) }
+    ensures stands { IfOk result (λ found. IfSome found (λ n. HasObject (D.seen disk.new) place at.now)) }
+    ensures left { LeavesAll (D.seen disk.old) (D.seen disk.new) }
     ensures grew { Grew (D.seen disk.old) (D.seen disk.new) }
     ensures cause { HasCause (D.seen disk.old).faults (D.seen disk.new).faults result }
 {
     did_law();
     leaves_law();
+    claims_law();
     grew_law();
     was_law();
+    stands_law();
     disk.read(place, at, from, into)
 }
 

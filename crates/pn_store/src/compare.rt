@@ -6,18 +6,17 @@ ghost use Rattle.pn_fs.specs.Tree.{IsFile};
 ghost use Rattle.pn_fs.specs.Seen.{Keeps};
 ghost use Rattle.pn_fs.specs.Pieces.{IsPiece};
 ghost use Rattle.pn_digest.specs.Hashing.{Holds as Hashes};
-ghost use Rattle.pn_storecore.specs.Held.{Holds, TempFiles};
 ghost use Rattle.pn_storecore.specs.Grew.{Grew};
 ghost use Rattle.pn_store.specs.Faults.{FileRefused, PutRefused, SourceRefuses};
 ghost use Rattle.pn_store.specs.Puts.{IsFound, IsMet, HasSource};
 ghost use Rattle.pn_store.specs.Begins.{BeginsAt, IsEnd};
-ghost use Rattle.pn_store.specs.Published.{PublishedNone};
+ghost use Rattle.pn_store.specs.Leaves.{LeavesAll};
 
 use crate::calls::read;
 use crate::fault::PutFault;
 use pn_digest::{Digest, Hasher512};
 use pn_fs::ReadFs;
-use pn_storecore::{Place, StoreDisk, grew_law, was_law};
+use pn_storecore::{Place, StoreDisk, claims_law, grew_law, was_law};
 use pn_text::{AbsPath, DevFault, FILE_LIMIT};
 
 /// What was read at an address: nothing, the source's bytes, others with this SHA-512, or more than 268,435,456.
@@ -43,8 +42,7 @@ pub fn meet<D: StoreDisk, R: ReadFs>(
     requires file { ForSome (R.seen from.old).tree (λ r. IsFile r path.now) }
     requires room { (0 < length ours.old) × (0 < length theirs.old) }
     ensures met { OnOk result (IsMet (R.seen from.old).tree path.now at.now (D.seen disk.old) (D.seen disk.new)) }
-    ensures unpublished { OnOk result (PublishedNone (D.seen disk.old) (D.seen disk.new)) }
-    ensures left { (k : ℕ) (files : TempFiles) → Holds (D.seen disk.old) k files → Holds (D.seen disk.new) k files }
+    ensures left { LeavesAll (D.seen disk.old) (D.seen disk.new) }
     ensures grew { Grew (D.seen disk.old) (D.seen disk.new) }
     ensures later { (D.seen disk.old).faults ≤ (D.seen disk.new).faults }
     ensures source { Keeps (R.seen from.old) (R.seen from.new) }
@@ -79,14 +77,14 @@ fn compare<D: StoreDisk, R: ReadFs>(
     requires file { ForSome (R.seen from.old).tree (λ r. IsFile r path.now) }
     requires room { (0 < length ours.old) × (0 < length theirs.old) }
     ensures found { IfOk result (IsFound (R.seen from.old).tree path.now at.now (D.seen disk.old) (D.seen disk.new)) }
-    ensures unpublished { OnOk result (PublishedNone (D.seen disk.old) (D.seen disk.new)) }
-    ensures left { (k : ℕ) (files : TempFiles) → Holds (D.seen disk.old) k files → Holds (D.seen disk.new) k files }
+    ensures left { LeavesAll (D.seen disk.old) (D.seen disk.new) }
     ensures grew { Grew (D.seen disk.old) (D.seen disk.new) }
     ensures later { (D.seen disk.old).faults ≤ (D.seen disk.new).faults }
     ensures source { Keeps (R.seen from.old) (R.seen from.new) }
     ensures fault { IfErr result (FileRefused path.now (R.seen from.old) (R.seen from.new) (D.seen disk.old) (D.seen disk.new)) }
 {
     grew_law();
+    claims_law();
     was_law();
     let mut hasher = Hasher512::new();
     let mut place = 0u64;

@@ -1,18 +1,19 @@
 // A file of a tree, put into the store.
-ghost use Rattle.std.specs.Prelude.{◌≡◌, ◌≤◌, ◌<◌, ℕ, List, [], ◌++◌, OnOk, IfOk, IfErr, length, take};
+ghost use Rattle.std.specs.Prelude.{◌≡◌, ◌≤◌, ◌<◌, ℕ, List, [], ◌++◌, OnOk, OnErr, IfOk, IfErr, length, take};
 ghost use Rattle.std.specs.Option.{ForSome};
 ghost use Rattle.sha2.specs.Sha512.{sha512};
 ghost use Rattle.pn_fs.specs.Tree.{IsFile};
 ghost use Rattle.pn_fs.specs.Seen.{Keeps};
 ghost use Rattle.pn_digest.specs.Hashing.{Holds as Hashes};
 ghost use Rattle.pn_storecore.specs.declared.step.Place.TheVariants.{Files};
+ghost use Rattle.pn_storecore.specs.declared.step.StoreStep.TheVariants as step;
 ghost use Rattle.pn_storecore.specs.Stored.{IsStoredFile};
 ghost use Rattle.pn_storecore.specs.Held.{HasBytes};
 ghost use Rattle.pn_storecore.specs.Seen.{Seen as Stored};
 ghost use Rattle.pn_store.specs.Held.{HoldsFile, IsHeld, Works};
 ghost use Rattle.pn_store.specs.Faults.{FileRefused, PutRefused, StoreRefuses};
-ghost use Rattle.pn_store.specs.Puts.{IsPut, IsFilled, IsShortFile};
-ghost use Rattle.pn_store.specs.Published.{PublishedNone};
+ghost use Rattle.pn_store.specs.Own.{PublishedNone, PublishedOne, PublishedAtMost};
+ghost use Rattle.pn_store.specs.Puts.{IsPut, IsFilled, IsShortFile, PutAtMost};
 
 use crate::calls::{append, first_of, publish_file, shard, start};
 use crate::compare::{meet, source_piece};
@@ -20,7 +21,7 @@ use crate::fault::PutFault;
 use crate::number::Claim;
 use pn_digest::{Digest, Hasher512};
 use pn_fs::{Kind, ReadFs};
-use pn_storecore::{Place, StoreDisk, grew_law, stands_law, was_law};
+use pn_storecore::{Place, StoreDisk, claims_law, grew_law, stands_law, was_law};
 use pn_text::{AbsPath, DevFault, FILE_LIMIT, PIECE};
 use std::alloc::Global;
 
@@ -45,12 +46,16 @@ pub fn put_file<D: StoreDisk, R: ReadFs>(
     requires held { IsHeld (D.seen disk.old) claim.old }
     requires file { ForSome (R.seen from.old).tree (λ r. IsFile r path.now) }
     ensures put { IfOk result (IsPut (R.seen from.old).tree path.now (D.seen disk.old) (D.seen disk.new)) }
+    ensures published { IfOk result (λ put. PublishedOne (step.PublishFile claim.old 0 put.digest) (D.seen disk.old) (D.seen disk.new)) }
+    ensures refused { OnErr result (PutAtMost (R.seen from.old).tree path.now claim.old (D.seen disk.old) (D.seen disk.new)) }
+    ensures empty { OnOk result (HoldsFile (D.seen disk.new) claim.old None) }
     ensures claim { claim.new ≡ claim.old }
     ensures works { Works claim.old (D.seen disk.old) (D.seen disk.new) }
     ensures source { Keeps (R.seen from.old) (R.seen from.new) }
     ensures fault { IfErr result (PutRefused path.now (R.seen from.old) (R.seen from.new) (D.seen disk.old) (D.seen disk.new)) }
 {
     grew_law();
+    claims_law();
     let k = claim.number();
     if let Err(fault) = check_size(from, path) {
         return Err(fault);
@@ -73,11 +78,15 @@ fn put_short<D: StoreDisk, R: ReadFs>(
     requires file { ForSome (R.seen from.old).tree (λ r. IsShortFile r path.now) }
     requires room { (0 < length buffer.old) × (0 < length other.old) }
     ensures put { IfOk result (IsPut (R.seen from.old).tree path.now (D.seen disk.old) (D.seen disk.new)) }
+    ensures published { IfOk result (λ put. PublishedOne (step.PublishFile k 0 put.digest) (D.seen disk.old) (D.seen disk.new)) }
+    ensures refused { OnErr result (PutAtMost (R.seen from.old).tree path.now k (D.seen disk.old) (D.seen disk.new)) }
+    ensures empty { OnOk result (HoldsFile (D.seen disk.new) k None) }
     ensures works { Works k (D.seen disk.old) (D.seen disk.new) }
     ensures source { Keeps (R.seen from.old) (R.seen from.new) }
     ensures fault { IfErr result (PutRefused path.now (R.seen from.old) (R.seen from.new) (D.seen disk.old) (D.seen disk.new)) }
 {
     grew_law();
+    claims_law();
     was_law();
     stands_law();
     start(disk, k)?;
@@ -99,12 +108,13 @@ fn fill<D: StoreDisk, R: ReadFs>(
     requires file { ForSome (R.seen from.old).tree (λ r. IsShortFile r path.now) }
     requires room { 0 < length buffer.old }
     ensures filled { IfOk result (IsFilled (R.seen from.old).tree path.now k (D.seen disk.new)) }
-    ensures unpublished { OnOk result (PublishedNone (D.seen disk.old) (D.seen disk.new)) }
+    ensures unpublished { PublishedNone (D.seen disk.old) (D.seen disk.new) }
     ensures works { Works k (D.seen disk.old) (D.seen disk.new) }
     ensures source { Keeps (R.seen from.old) (R.seen from.new) }
     ensures fault { IfErr result (FileRefused path.now (R.seen from.old) (R.seen from.new) (D.seen disk.old) (D.seen disk.new)) }
 {
     grew_law();
+    claims_law();
     let mut hasher = Hasher512::new();
     let mut at = 0u64;
     'pieces: loop {
@@ -156,10 +166,14 @@ fn take_in<D: StoreDisk>(
 fn move_to<D: StoreDisk>(disk: &mut D, k: u32, at: &Digest) -> Result<(), PutFault>
     requires { (bytes : List ℕ) × HoldsFile (D.seen disk.old) k (Some bytes) × IsStoredFile at.now bytes }
     ensures stands { (bytes : List ℕ) → HoldsFile (D.seen disk.old) k (Some bytes) → OnOk result (HasBytes (D.seen disk.new) Files at.now bytes) }
+    ensures empty { OnOk result (HoldsFile (D.seen disk.new) k None) }
+    ensures published { OnOk result (PublishedOne (step.PublishFile k 0 at.now) (D.seen disk.old) (D.seen disk.new)) }
+    ensures at_most { PublishedAtMost (step.PublishFile k 0 at.now) (D.seen disk.old) (D.seen disk.new) }
     ensures works { Works k (D.seen disk.old) (D.seen disk.new) }
     ensures fault { IfErr result (StoreRefuses (D.seen disk.old) (D.seen disk.new)) }
 {
     grew_law();
+    claims_law();
     shard(disk, k, Place::Files, first_of(at))?;
     publish_file(disk, k, at)
 }

@@ -1,5 +1,5 @@
 // Laws of what is read.
-ghost use Rattle.pn_store.specs.Reads.{WrongLaw};
+ghost use Rattle.pn_store.specs.Reads.{FoundLaw, WrongLaw};
 
 use pn_storecore::was_law;
 
@@ -10,3 +10,9 @@ pub fn wrong_law()
 {
     was_law();
 }
+
+/// In a store that is sound at entry, each file that a listing names which was read there stands at the end, unless two
+/// different listings stood there at steps of the call.
+pub fn found_law()
+    ensures { FoundLaw }
+{}

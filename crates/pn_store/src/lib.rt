@@ -23,7 +23,7 @@ mod reads;
 pub use claims::{claim, release};
 pub use fault::{ClaimFault, PutFault, ReadFault};
 pub use files::{Put, put_file};
-pub use laws::wrong_law;
+pub use laws::{found_law, wrong_law};
 pub use listings::put_listing;
 pub use number::{Claim, NUMBERS};
 pub use reads::{has, listing, read_piece};

@@ -1,16 +1,18 @@
 // What stands in a store, read.
 ghost use Rattle.std.specs.Prelude.{◌≡◌, ◌≤◌, ◌<◌, ℕ, ◌++◌, IfOk, IfErr, IfSome, OnOk, length, take, vec_len, ◌+◌};
+ghost use Rattle.std.specs.Bool.{OnTrue};
 ghost use Rattle.std.specs.Option.{option_map};
 ghost use Rattle.pn_digest.specs.Listing.{listing_text};
-ghost use Rattle.pn_storecore.specs.declared.step.Place.TheVariants.{Files};
-ghost use Rattle.pn_storecore.specs.Held.{Holds, TempFiles};
+ghost use Rattle.pn_storecore.specs.declared.step.Place.TheVariants.{Files, Listings};
+ghost use Rattle.pn_storecore.specs.Held.{HasObject};
 ghost use Rattle.pn_storecore.specs.Grew.{Grew, ReadTo};
+ghost use Rattle.pn_store.specs.Leaves.{LeavesAll};
 ghost use Rattle.pn_store.specs.Reads.{IsThere, IsListingRead, IsPieceRead, IsTextRead, ReadRefused, ListingRefused, found_bytes};
 
 use crate::calls::read;
 use crate::fault::ReadFault;
 use pn_digest::{Digest, Integrity, Listing, ListingFault};
-use pn_storecore::{Place, StoreDisk, grew_law, was_law};
+use pn_storecore::{Place, StoreDisk, claims_law, grew_law, was_law};
 use pn_text::DevFault;
 use std::alloc::Global;
 
@@ -19,7 +21,8 @@ const BUFFER: usize = 4096;
 /// Whether something stands at a listing's address. It is answered by the store at a step of this call.
 pub fn has<D: StoreDisk>(disk: &mut D, at: &Integrity) -> Result<bool, ReadFault>
     ensures there { IfOk result (IsThere at.now (D.seen disk.old) (D.seen disk.new)) }
-    ensures left { (k : ℕ) (files : TempFiles) → Holds (D.seen disk.old) k files → Holds (D.seen disk.new) k files }
+    ensures stands { IfOk result (λ found. OnTrue found (HasObject (D.seen disk.new) Listings at.now)) }
+    ensures left { LeavesAll (D.seen disk.old) (D.seen disk.new) }
     ensures grew { Grew (D.seen disk.old) (D.seen disk.new) }
     ensures later { (D.seen disk.old).faults ≤ (D.seen disk.new).faults }
     ensures fault { IfErr result (ReadRefused (D.seen disk.old) (D.seen disk.new)) }
@@ -44,7 +47,8 @@ pub fn read_piece<D: StoreDisk>(
     requires { 0 < length into.old }
     ensures within { IfOk result (λ found. IfSome found (λ n. n ≤ length into.old)) }
     ensures read { IfOk result (λ found. IsPieceRead at.now from into.new found (D.seen disk.old) (D.seen disk.new)) }
-    ensures left { (k : ℕ) (files : TempFiles) → Holds (D.seen disk.old) k files → Holds (D.seen disk.new) k files }
+    ensures stands { IfOk result (λ found. IfSome found (λ n. HasObject (D.seen disk.new) Files at.now)) }
+    ensures left { LeavesAll (D.seen disk.old) (D.seen disk.new) }
     ensures grew { Grew (D.seen disk.old) (D.seen disk.new) }
     ensures later { (D.seen disk.old).faults ≤ (D.seen disk.new).faults }
     ensures fault { IfErr result (ReadRefused (D.seen disk.old) (D.seen disk.new)) }
@@ -60,7 +64,8 @@ pub fn listing<D: StoreDisk>(
     at: &Integrity,
 ) -> Result<Option<Listing>, ReadFault>
     ensures read { IfOk result (λ found. IsListingRead at.now (D.seen disk.old) (D.seen disk.new) (option_map listing_text found)) }
-    ensures left { (k : ℕ) (files : TempFiles) → Holds (D.seen disk.old) k files → Holds (D.seen disk.new) k files }
+    ensures stands { IfOk result (λ found. IfSome found (λ l. HasObject (D.seen disk.new) Listings at.now)) }
+    ensures left { LeavesAll (D.seen disk.old) (D.seen disk.new) }
     ensures grew { Grew (D.seen disk.old) (D.seen disk.new) }
     ensures later { (D.seen disk.old).faults ≤ (D.seen disk.new).faults }
     ensures fault { IfErr result (ListingRefused at.now (D.seen disk.old) (D.seen disk.new)) }
@@ -89,12 +94,14 @@ fn text_at<D: StoreDisk>(
     at: &Digest,
 ) -> Result<Option<Vec<u8>>, ReadFault>
     ensures read { IfOk result (λ found. IsTextRead at.now (D.seen disk.old) (D.seen disk.new) (found_bytes found)) }
-    ensures left { (k : ℕ) (files : TempFiles) → Holds (D.seen disk.old) k files → Holds (D.seen disk.new) k files }
+    ensures stands { IfOk result (λ found. IfSome found (λ v. HasObject (D.seen disk.new) Listings at.now)) }
+    ensures left { LeavesAll (D.seen disk.old) (D.seen disk.new) }
     ensures grew { Grew (D.seen disk.old) (D.seen disk.new) }
     ensures later { (D.seen disk.old).faults ≤ (D.seen disk.new).faults }
     ensures fault { IfErr result (ReadRefused (D.seen disk.old) (D.seen disk.new)) }
 {
     grew_law();
+    claims_law();
     was_law();
     let mut all = Vec::new(alloc);
     let mut buffer = [0u8; BUFFER];
@@ -139,7 +146,8 @@ fn piece<D: StoreDisk>(
     requires { 0 < length into.old }
     ensures within { IfOk result (λ found. IfSome found (λ n. n ≤ length into.old)) }
     ensures read { IfOk result (λ found. IfSome (D.seen disk.old).journal (λ j. ReadTo place at.now from into.new found j (D.seen disk.new).journal)) }
-    ensures left { (k : ℕ) (files : TempFiles) → Holds (D.seen disk.old) k files → Holds (D.seen disk.new) k files }
+    ensures stands { IfOk result (λ found. IfSome found (λ n. HasObject (D.seen disk.new) place at.now)) }
+    ensures left { LeavesAll (D.seen disk.old) (D.seen disk.new) }
     ensures grew { Grew (D.seen disk.old) (D.seen disk.new) }
     ensures later { (D.seen disk.old).faults ≤ (D.seen disk.new).faults }
     ensures fault { IfErr result (ReadRefused (D.seen disk.old) (D.seen disk.new)) }

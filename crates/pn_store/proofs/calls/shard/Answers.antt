@@ -1,5 +1,8 @@
 use Rattle.pn_storecore.specs.declared.step.StoreStep.TheVariants.{Shard}
 use Rattle.pn_storecore.specs.Held.{files_with, no_files}
+use Rattle.pn_store.specs.Own.{IsNoPublish, IsPutStep}
+use Rattle.pn_store.proofs.MadeLemmas.{made_call}
+use Rattle.pn_store.proofs.LeavesLemmas.{others_call}
 use Rattle.pn_store.proofs.calls.shard.Goals as goal
 
 pub returns-clause-left : goal.returns-clause-left
@@ -8,17 +11,31 @@ returns-clause-left g c b held =
     let d = c.shard in
     let one = seen c.args.disk.now in
     let two = seen d.new.self in
-    c.leaves_law.ensures one two (Shard c.args.place c.args.first) c.args.k (files_with no_files 0 b) (c.did_law.ensures.does one two (Shard c.args.place c.args.first) d.result d.ensures.kept d.ensures.step) tt held
+    let own = Shard c.args.place c.args.first in
+    c.leaves_law.ensures one two own c.args.k (files_with no_files 0 b) (c.did_law.ensures.does one two own d.result d.ensures.kept d.ensures.step) tt held
 
-pub returns-clause-works : goal.returns-clause-works
-returns-clause-works g c =
+pub returns-clause-unpublished : goal.returns-clause-unpublished
+returns-clause-unpublished g c =
     let seen = g.D.StoreDisk.seen in
     let d = c.shard in
     let one = seen c.args.disk.now in
     let two = seen d.new.self in
-    let did = c.did_law.ensures.does one two (Shard c.args.place c.args.first) d.result d.ensures.kept d.ensures.step in
+    let own = Shard c.args.place c.args.first in
+    made_call IsNoPublish one two own (c.did_law.ensures.does one two own d.result d.ensures.kept d.ensures.step) tt (λ k n a b h. h)
+
+pub returns-clause-works : goal.returns-clause-works
+returns-clause-works g c =
+    let seen = g.D.StoreDisk.seen in
+    let k = c.args.k in
+    let d = c.shard in
+    let one = seen c.args.disk.now in
+    let two = seen d.new.self in
+    let own = Shard c.args.place c.args.first in
+    let did = c.did_law.ensures.does one two own d.result d.ensures.kept d.ensures.step in
     record {
-      held = (c.requires.0, c.leaves_law.ensures one two (Shard c.args.place c.args.first) c.args.k (files_with no_files 0 c.requires.0) did tt c.requires.1);
-      grew = c.grew_law.ensures.call one two (Shard c.args.place c.args.first) (λ j told. tt) did;
+      held = (c.requires.0, c.leaves_law.ensures one two own k (files_with no_files 0 c.requires.0) did tt c.requires.1);
+      others = others_call c.leaves_law.ensures c.claims_law.ensures one two own k did (λ j e. cc) (λ j apart. tt);
+      own = made_call (IsPutStep k) one two own did tt (λ q n a b h. h);
+      grew = c.grew_law.ensures.call one two own (λ j told. tt) did;
       later = d.ensures.cause.later;
     }

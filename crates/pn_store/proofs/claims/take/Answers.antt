@@ -1,5 +1,5 @@
 use Rattle.pn_storecore.specs.declared.step.StoreStep.TheVariants.{Claim}
-use Rattle.pn_store.proofs.ClaimsLemmas.{claimed, others, stood, tried, err_at}
+use Rattle.pn_store.proofs.ClaimsLemmas.{claimed, others, stood, tried, err_at, only_claim}
 use Rattle.pn_store.proofs.claims.take.Goals as goal
 
 pub returns-in-Ok-clause-claimed : goal.returns-in-Ok-clause-claimed
@@ -32,3 +32,18 @@ pub returns-in-Err-Memory-clause-left : goal.returns-in-Err-Memory-clause-left
 returns-in-Err-Memory-clause-left g c =
     let seen = g.D.StoreDisk.seen in
     err_at _ c.claim.result c.in-Err-Memory.field-0 c.in-Err-Memory.is (tried c.holds_law.ensures c.did_law.ensures c.claims_law.ensures (seen c.args.disk.now) (seen c.claim.new.self) c.args.k c.claim.result c.claim.ensures.kept c.claim.ensures.step)
+
+pub returns-in-Ok-clause-only : goal.returns-in-Ok-clause-only
+returns-in-Ok-clause-only g c =
+    let seen = g.D.StoreDisk.seen in
+    only_claim c.did_law.ensures c.leaves_law.ensures (seen c.args.disk.now) (seen c.claim.new.self) c.args.k c.claim.result c.claim.ensures.kept c.claim.ensures.step
+
+pub returns-in-Err-Failed-clause-only : goal.returns-in-Err-Failed-clause-only
+returns-in-Err-Failed-clause-only g c =
+    let seen = g.D.StoreDisk.seen in
+    only_claim c.did_law.ensures c.leaves_law.ensures (seen c.args.disk.now) (seen c.claim.new.self) c.args.k c.claim.result c.claim.ensures.kept c.claim.ensures.step
+
+pub returns-in-Err-Memory-clause-only : goal.returns-in-Err-Memory-clause-only
+returns-in-Err-Memory-clause-only g c =
+    let seen = g.D.StoreDisk.seen in
+    only_claim c.did_law.ensures c.leaves_law.ensures (seen c.args.disk.now) (seen c.claim.new.self) c.args.k c.claim.result c.claim.ensures.kept c.claim.ensures.step

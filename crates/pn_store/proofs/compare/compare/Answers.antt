@@ -5,7 +5,7 @@ use Rattle.pn_storecore.specs.Grew.{ReadTo}
 use Rattle.pn_fs.proofs.SeenLemmas.{keeps_on, keeps_same}
 use Rattle.pn_store.proofs.ReadsLemmas.{start, reads_on, reads_end, too_long, fewer}
 use Rattle.pn_store.proofs.BeginsLemmas.{begins_none, begins_more, found_end}
-use Rattle.pn_store.proofs.PublishedLemmas.{published_none, published_both}
+use Rattle.pn_store.proofs.LeavesLemmas.{all_none, all_both}
 use Rattle.pn_store.proofs.compare.compare.Goals as goal
 
 pub pieces-init : goal.pieces-init
@@ -17,29 +17,40 @@ pieces-init g c =
       begins = begins_none source.tree c.args.path.now c.requires.file;
       within = omega arith;
       kept = keeps_same source;
-      left = λ k files held. held;
-      unpublished = published_none a;
+      left = all_none c.claims_law.ensures a;
       grew = c.grew_law.ensures.none a;
       later = omega arith;
     }
 
 pub returns-in-Ok-None-clause-left : goal.returns-in-Ok-None-clause-left
-returns-in-Ok-None-clause-left g c k files held = c.read.ensures.left k files (c.pieces.invariant.left k files held)
+returns-in-Ok-None-clause-left g c =
+    let store = g.D.StoreDisk.seen in
+    all_both c.claims_law.ensures (store c.args.disk.now) (store c.pieces.disk) (store c.read.new.disk) c.pieces.invariant.left c.read.ensures.left
 
 pub returns-in-Err-Failed-clause-left : goal.returns-in-Err-Failed-clause-left
-returns-in-Err-Failed-clause-left g c k files held = c.read.ensures.left k files (c.pieces.invariant.left k files held)
+returns-in-Err-Failed-clause-left g c =
+    let store = g.D.StoreDisk.seen in
+    all_both c.claims_law.ensures (store c.args.disk.now) (store c.pieces.disk) (store c.read.new.disk) c.pieces.invariant.left c.read.ensures.left
 
 pub returns-in-Err-Memory-clause-left : goal.returns-in-Err-Memory-clause-left
-returns-in-Err-Memory-clause-left g c k files held = c.read.ensures.left k files (c.pieces.invariant.left k files held)
+returns-in-Err-Memory-clause-left g c =
+    let store = g.D.StoreDisk.seen in
+    all_both c.claims_law.ensures (store c.args.disk.now) (store c.pieces.disk) (store c.read.new.disk) c.pieces.invariant.left c.read.ensures.left
 
 pub returns-then-count-eq0-clause-left : goal.returns-then-count-eq0-clause-left
-returns-then-count-eq0-clause-left g c k files held = c.read.ensures.left k files (c.pieces.invariant.left k files held)
+returns-then-count-eq0-clause-left g c =
+    let store = g.D.StoreDisk.seen in
+    all_both c.claims_law.ensures (store c.args.disk.now) (store c.pieces.disk) (store c.read.new.disk) c.pieces.invariant.left c.read.ensures.left
 
 pub returns-then-place-count-gt-FILE_LIMIT-clause-left : goal.returns-then-place-count-gt-FILE_LIMIT-clause-left
-returns-then-place-count-gt-FILE_LIMIT-clause-left g c k files held = c.read.ensures.left k files (c.pieces.invariant.left k files held)
+returns-then-place-count-gt-FILE_LIMIT-clause-left g c =
+    let store = g.D.StoreDisk.seen in
+    all_both c.claims_law.ensures (store c.args.disk.now) (store c.pieces.disk) (store c.read.new.disk) c.pieces.invariant.left c.read.ensures.left
 
 pub returns-in_err-step-clause-left : goal.returns-in_err-step-clause-left
-returns-in_err-step-clause-left g c k files held = c.read.ensures.left k files (c.pieces.invariant.left k files held)
+returns-in_err-step-clause-left g c =
+    let store = g.D.StoreDisk.seen in
+    all_both c.claims_law.ensures (store c.args.disk.now) (store c.pieces.disk) (store c.read.new.disk) c.pieces.invariant.left c.read.ensures.left
 
 pub returns-then-count-eq0-clause-found : goal.returns-then-count-eq0-clause-found
 returns-then-count-eq0-clause-found g c =
@@ -104,23 +115,7 @@ pieces-preserved g c =
       begins = begins_more (g.R.ReadFs.seen c.args.from.now).tree (g.R.ReadFs.seen c.pieces.from).tree c.args.path.now bytes (take used into) c.pieces.place c.pieces.same c.in_ok-step.step.same inv.kept.tree inv.reading.size inv.begins step.begins step.differs;
       within = omega (arith, c.if-place-count-gt-FILE_LIMIT.false, step.used.1);
       kept = keeps_on (g.R.ReadFs.seen c.args.from.now) (g.R.ReadFs.seen c.pieces.from) (g.R.ReadFs.seen c.agree.new.from) inv.kept c.agree.ensures.kept;
-      left = λ k files held. c.read.ensures.left k files (inv.left k files held);
-      unpublished = published_both old mid new inv.unpublished c.read.ensures.unpublished;
+      left = all_both c.claims_law.ensures old mid new inv.left c.read.ensures.left;
       grew = c.grew_law.ensures.both old mid new inv.grew c.read.ensures.grew;
       later = omega (arith, inv.later, c.read.ensures.cause.later);
     }
-
-pub returns-in-Ok-None-clause-unpublished : goal.returns-in-Ok-None-clause-unpublished
-returns-in-Ok-None-clause-unpublished g c =
-    let store = g.D.StoreDisk.seen in
-    published_both (store c.args.disk.now) (store c.pieces.disk) (store c.read.new.disk) c.pieces.invariant.unpublished c.read.ensures.unpublished
-
-pub returns-then-count-eq0-clause-unpublished : goal.returns-then-count-eq0-clause-unpublished
-returns-then-count-eq0-clause-unpublished g c =
-    let store = g.D.StoreDisk.seen in
-    published_both (store c.args.disk.now) (store c.pieces.disk) (store c.read.new.disk) c.pieces.invariant.unpublished c.read.ensures.unpublished
-
-pub returns-then-place-count-gt-FILE_LIMIT-clause-unpublished : goal.returns-then-place-count-gt-FILE_LIMIT-clause-unpublished
-returns-then-place-count-gt-FILE_LIMIT-clause-unpublished g c =
-    let store = g.D.StoreDisk.seen in
-    published_both (store c.args.disk.now) (store c.pieces.disk) (store c.read.new.disk) c.pieces.invariant.unpublished c.read.ensures.unpublished

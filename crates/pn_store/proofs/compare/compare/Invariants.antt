@@ -2,9 +2,8 @@ use Rattle.std.proofs.Common.{◌≤◌, ◌-◌, ℕ}
 use Rattle.std.specs.Option.{ForSome}
 use Rattle.pn_fs.specs.Seen.{Keeps}
 use Rattle.pn_storecore.specs.declared.step.Place.TheVariants.{Files}
-use Rattle.pn_storecore.specs.Held.{Holds, TempFiles}
 use Rattle.pn_storecore.specs.Grew.{Grew}
-use Rattle.pn_store.specs.Published.{PublishedNone}
+use Rattle.pn_store.specs.Leaves.{LeavesAll}
 use Rattle.pn_store.specs.Begins.{BeginsAt}
 use Rattle.pn_store.proofs.ReadsLemmas.{IsReading}
 use Rattle.pn_store.proofs.compare.compare.Given as goal
@@ -19,8 +18,7 @@ invariant-pieces g l =
       begins : ForSome (source l.fn.from).tree (λ r. BeginsAt (r l.path) 0 reading.bytes l.same);
       within : l.place ≤ 268435456;
       kept : Keeps (source l.fn.from) (source l.from);
-      left : (k : ℕ) (files : TempFiles) → Holds (store l.fn.disk) k files → Holds (store l.disk) k files;
-      unpublished : PublishedNone (store l.fn.disk) (store l.disk);
+      left : LeavesAll (store l.fn.disk) (store l.disk);
       grew : Grew (store l.fn.disk) (store l.disk);
       later : (store l.fn.disk).faults ≤ (store l.disk).faults;
     }

@@ -3,7 +3,8 @@ use Rattle.pn_store.proofs.HeldLemmas.{works_none, works_twice}
 use Rattle.pn_fs.proofs.PieceLemmas.{piece_of}
 use Rattle.pn_store.proofs.PutsLemmas.{starts, goes_on, ends, not_large, short_is_file}
 use Rattle.pn_store.specs.Faults.{IsLong}
-use Rattle.pn_store.proofs.PublishedLemmas.{published_none, published_both}
+use Rattle.pn_store.specs.Own.{IsNoPublish}
+use Rattle.pn_store.proofs.MadeLemmas.{made_none, none_both}
 use Rattle.pn_store.proofs.files.fill.Goals as goal
 
 pub pieces-init : goal.pieces-init
@@ -12,8 +13,8 @@ pieces-init g c =
       filling = starts _ _ _ _ _ c.requires.held c.new-hasher.ensures c.requires.file;
       within = omega arith;
       kept = record { tree = refl; touched = refl; later = omega arith };
-      unpublished = published_none (g.D.StoreDisk.seen c.args.disk.now);
-      works = works_none c.grew_law.ensures c.args.k (g.D.StoreDisk.seen c.args.disk.now) (Some [], c.requires.held);
+      unpublished = made_none IsNoPublish (g.D.StoreDisk.seen c.args.disk.now);
+      works = works_none c.grew_law.ensures c.claims_law.ensures c.args.k (g.D.StoreDisk.seen c.args.disk.now) (Some [], c.requires.held);
     }
 
 pub source_piece-requires-clause-file : goal.source_piece-requires-clause-file
@@ -39,6 +40,16 @@ pieces-preserved g c =
       filling = goes_on _ _ _ _ _ _ c.pieces.hasher _ _ _ h (piece_of _ _ _ _ _ _ inv.kept.tree c.in_ok-count.ensures.piece) within (c.in_ok-take_in.ensures.ok h.bytes h.holds) (c.in_ok-take_in.ensures.hashed h.bytes h.hashed);
       within = c.if-next-gt-FILE_LIMIT.false;
       kept = search rules;
-      unpublished = published_both (seen c.args.disk.now) (seen c.pieces.disk) (seen c.take_in.new.disk) inv.unpublished c.in_ok-take_in.ensures.unpublished;
-      works = works_twice c.grew_law.ensures c.args.k (seen c.args.disk.now) (seen c.pieces.disk) (seen c.take_in.new.disk) inv.works c.in_ok-take_in.ensures.works;
+      unpublished = none_both (seen c.args.disk.now) (seen c.pieces.disk) (seen c.take_in.new.disk) inv.unpublished c.take_in.ensures.unpublished;
+      works = works_twice c.grew_law.ensures c.claims_law.ensures c.args.k (seen c.args.disk.now) (seen c.pieces.disk) (seen c.take_in.new.disk) inv.works c.take_in.ensures.works;
     }
+
+pub returns-in_err-take_in-clause-unpublished : goal.returns-in_err-take_in-clause-unpublished
+returns-in_err-take_in-clause-unpublished g c =
+    let seen = g.D.StoreDisk.seen in
+    none_both (seen c.args.disk.now) (seen c.pieces.disk) (seen c.take_in.new.disk) c.pieces.invariant.unpublished c.take_in.ensures.unpublished
+
+pub returns-in_err-take_in-clause-works : goal.returns-in_err-take_in-clause-works
+returns-in_err-take_in-clause-works g c =
+    let seen = g.D.StoreDisk.seen in
+    works_twice c.grew_law.ensures c.claims_law.ensures c.args.k (seen c.args.disk.now) (seen c.pieces.disk) (seen c.take_in.new.disk) c.pieces.invariant.works c.take_in.ensures.works

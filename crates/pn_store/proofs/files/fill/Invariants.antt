@@ -1,6 +1,6 @@
 use Rattle.std.proofs.Common.{◌≤◌, ◌-◌}
 use Rattle.pn_fs.specs.Seen.{Keeps}
-use Rattle.pn_store.specs.Published.{PublishedNone}
+use Rattle.pn_store.specs.Own.{PublishedNone}
 use Rattle.pn_store.specs.Held.{Works}
 use Rattle.pn_store.proofs.PutsLemmas.{IsFilling}
 use Rattle.pn_store.proofs.files.fill.Given as goal

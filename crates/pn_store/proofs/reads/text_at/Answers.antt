@@ -1,22 +1,37 @@
-use Rattle.std.proofs.Common.{◌≤◌, ◌++◌, length, take, vec_len, sym, ap, subst, arith, Some, length-append}
+use Rattle.std.proofs.Common.{◌≤◌, ◌++◌, length, take, vec_len, rules, sym, ap, subst, arith, Some, length-append}
 use Rattle.std.proofs.lemmas.List.{length-take-le}
 use Rattle.std.specs.Prelude.{IfSome}
 use Rattle.pn_storecore.specs.declared.step.Place.TheVariants.{Listings}
+use Rattle.pn_storecore.specs.Held.{HasObject}
 use Rattle.pn_storecore.specs.Grew.{ReadTo}
-use Rattle.pn_store.proofs.ReadsLemmas.{Reading, reads_on, reads_end}
+use Rattle.pn_store.proofs.ReadsLemmas.{Reading, start, reads_on, reads_end}
+use Rattle.pn_store.proofs.LeavesLemmas.{all_none, all_both}
 use Rattle.pn_store.proofs.reads.text_at.Goals as goal
 
+pub pieces-init : goal.pieces-init
+pieces-init g c =
+    let a = g.D.StoreDisk.seen c.args.disk.now in
+    record { size = search rules; reading = start (search rules); left = all_none c.claims_law.ensures a; grew = c.grew_law.ensures.none a; later = omega arith }
+
 pub returns-in-Ok-None-clause-left : goal.returns-in-Ok-None-clause-left
-returns-in-Ok-None-clause-left g c k files held = c.piece.ensures.left k files (c.pieces.invariant.left k files held)
+returns-in-Ok-None-clause-left g c =
+    let store = g.D.StoreDisk.seen in
+    all_both c.claims_law.ensures (store c.args.disk.now) (store c.pieces.disk) (store c.piece.new.disk) c.pieces.invariant.left c.piece.ensures.left
 
 pub returns-in-Err-clause-left : goal.returns-in-Err-clause-left
-returns-in-Err-clause-left g c k files held = c.piece.ensures.left k files (c.pieces.invariant.left k files held)
+returns-in-Err-clause-left g c =
+    let store = g.D.StoreDisk.seen in
+    all_both c.claims_law.ensures (store c.args.disk.now) (store c.pieces.disk) (store c.piece.new.disk) c.pieces.invariant.left c.piece.ensures.left
 
 pub returns-then-count-eq0-clause-left : goal.returns-then-count-eq0-clause-left
-returns-then-count-eq0-clause-left g c k files held = c.piece.ensures.left k files (c.pieces.invariant.left k files held)
+returns-then-count-eq0-clause-left g c =
+    let store = g.D.StoreDisk.seen in
+    all_both c.claims_law.ensures (store c.args.disk.now) (store c.pieces.disk) (store c.piece.new.disk) c.pieces.invariant.left c.piece.ensures.left
 
 pub returns-in-Err-take_in-clause-left : goal.returns-in-Err-take_in-clause-left
-returns-in-Err-take_in-clause-left g c k files held = c.piece.ensures.left k files (c.pieces.invariant.left k files held)
+returns-in-Err-take_in-clause-left g c =
+    let store = g.D.StoreDisk.seen in
+    all_both c.claims_law.ensures (store c.args.disk.now) (store c.pieces.disk) (store c.piece.new.disk) c.pieces.invariant.left c.piece.ensures.left
 
 pub returns-then-count-eq0-clause-read : goal.returns-then-count-eq0-clause-read
 returns-then-count-eq0-clause-read g c =
@@ -56,7 +71,12 @@ pieces-preserved g c =
     record {
       size = omega (arith, len, inv.size, ap length items, length-append all (take count into), length-take-le count into within);
       reading = subst (λ x. Reading Listings at x (vec_len c.take_in.new.all) old new) (sym items) (subst (λ n. Reading Listings at (all ++ take count into) n old new) (sym len) both);
-      left = λ k files held. c.piece.ensures.left k files (inv.left k files held);
+      left = all_both c.claims_law.ensures old mid new inv.left c.piece.ensures.left;
       grew = c.grew_law.ensures.both old mid new inv.grew c.piece.ensures.grew;
       later = omega (arith, inv.later, c.piece.ensures.later);
     }
+
+pub returns-then-count-eq0-clause-stands : goal.returns-then-count-eq0-clause-stands
+returns-then-count-eq0-clause-stands g c =
+    let new = g.D.StoreDisk.seen c.piece.new.disk in
+    subst (λ f. IfSome f (λ n. HasObject new Listings c.args.at.now)) c.in-Ok-Some.field-0-is c.in-Ok-Some.ensures.stands

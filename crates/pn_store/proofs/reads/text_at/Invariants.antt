@@ -1,7 +1,7 @@
 use Rattle.std.proofs.Common.{◌≡◌, ◌≤◌, ◌-◌, ℕ, vec_len, length}
 use Rattle.pn_storecore.specs.declared.step.Place.TheVariants.{Listings}
-use Rattle.pn_storecore.specs.Held.{Holds, TempFiles}
 use Rattle.pn_storecore.specs.Grew.{Grew}
+use Rattle.pn_store.specs.Leaves.{LeavesAll}
 use Rattle.pn_store.proofs.ReadsLemmas.{Reading}
 use Rattle.pn_store.proofs.reads.text_at.Given as goal
 
@@ -12,7 +12,7 @@ invariant-pieces g l =
     record {
       size : vec_len l.all ≡ length l.all.items;
       reading : Reading Listings l.at l.all.items (vec_len l.all) (store l.fn.disk) (store l.disk);
-      left : (k : ℕ) (files : TempFiles) → Holds (store l.fn.disk) k files → Holds (store l.disk) k files;
+      left : LeavesAll (store l.fn.disk) (store l.disk);
       grew : Grew (store l.fn.disk) (store l.disk);
       later : (store l.fn.disk).faults ≤ (store l.disk).faults;
     }
