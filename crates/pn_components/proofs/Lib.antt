@@ -1,0 +1,11 @@
+mod Reaching
+mod PartLemmas
+mod MarkLemmas
+mod RowLemmas
+mod EnterLemmas
+mod JoinLemmas
+mod PopLemmas
+mod CloseLemmas
+mod CloseSteps
+mod EndLemmas
+mod StepLemmas
