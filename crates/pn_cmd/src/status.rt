@@ -48,7 +48,8 @@ pub enum Status {
 }
 
 /// What is limited: 16,384 packages, 268,435,456 bytes of a package's file, 16,777,216 bytes of a
-/// manifest, 4,096 bytes of a path, 4,194,304 entries of a package.
+/// manifest, 4,096 bytes of a path, 4,194,304 entries of a package or of a name's
+/// folder.
 #[derive(Clone, Copy, Debug, PartialEq, Eq)]
 pub enum Which {
     Packages,

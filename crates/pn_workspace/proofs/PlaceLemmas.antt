@@ -42,6 +42,34 @@ inside w place projects p q h has s e =
     let within : is_within (modules_name ∷ q) p ≡ true = subst (λ x. is_within (modules_name ∷ q) x ≡ true) (sym e) (is_within_at s (modules_name ∷ q)) in
     (same_path-Decides p (default_store w.root)).0 (not_false (is_within (modules_name ∷ q) p) (same_path p (default_store w.root)) within (right_false (is_within p q) _ (free_of w place projects p q h has)))
 
+-- nothing is at or below an entry that the store may not be in
+outside : (w : Workspace) (a p : Path) → is_within a (store_of w) ≡ false → p ≡ store_of w → (s : Path) → p ≢ s ++ a
+outside w a p none is s e = true_false (is_within a (store_of w)) (subst (λ q. is_within a q ≡ true) (sym e ∙ is) (is_within_at s a)) none
+
+lock : (w : Workspace) (place : Path) (projects : List Path) (p : Path) → IsPlaced w place projects p → (s : Path) → p ≢ s ++ codes "pnpm-lock.yaml" ∷ w.root
+lock w place projects p h =
+    let a = right_false (is_named modules_name (store_of w)) _ h.free in
+    outside w (codes "pnpm-lock.yaml" ∷ w.root) p (left_false (is_within (codes "pnpm-lock.yaml" ∷ w.root) (store_of w)) _ a) h.is
+
+new_lock : (w : Workspace) (place : Path) (projects : List Path) (p : Path) → IsPlaced w place projects p → (s : Path) → p ≢ s ++ codes "pnpm-lock.yaml.pnpm-rs" ∷ w.root
+new_lock w place projects p h =
+    let a = right_false (is_named modules_name (store_of w)) _ h.free in
+    let b = right_false (is_within (codes "pnpm-lock.yaml" ∷ w.root) (store_of w)) _ a in
+    outside w (codes "pnpm-lock.yaml.pnpm-rs" ∷ w.root) p (left_false (is_within (codes "pnpm-lock.yaml.pnpm-rs" ∷ w.root) (store_of w)) _ b) h.is
+
+new_manifest : (w : Workspace) (place : Path) (projects : List Path) (p : Path) → IsPlaced w place projects p → (s : Path) → p ≢ s ++ codes "package.json.pnpm-rs" ∷ place
+new_manifest w place projects p h =
+    let a = right_false (is_named modules_name (store_of w)) _ h.free in
+    let b = right_false (is_within (codes "pnpm-lock.yaml" ∷ w.root) (store_of w)) _ a in
+    let c = right_false (is_within (codes "pnpm-lock.yaml.pnpm-rs" ∷ w.root) (store_of w)) _ b in
+    outside w (codes "package.json.pnpm-rs" ∷ place) p (left_false (is_within (codes "package.json.pnpm-rs" ∷ place) (store_of w)) _ c) h.is
+
+named : (w : Workspace) (place : Path) (projects : List Path) (q : Path) → IsPlaced w place projects (modules_name ∷ q) → ⊥
+named w place projects q h = true_false (is_named modules_name (store_of w)) (subst (λ p. is_named modules_name p ≡ true) h.is (same_name q)) (left_false (is_named modules_name (store_of w)) _ h.free)
+  where
+    same_name : (q : Path) → is_named modules_name (modules_name ∷ q) ≡ true
+    same_name q = refl
+
 -- a path isn't below itself
 too_deep : (s t : Path) (x : List ℕ) (p : Path) → p ≡ s ++ x ∷ (t ++ p) → ⊥
 too_deep s t x p e = omega (arith, ap length e, length-append s (x ∷ (t ++ p)), length-append t p)
@@ -93,4 +121,4 @@ default root =
     (both_false (is_in_way (same_path s s) s root) false (no_project root) refl)))
 
 pub place : PlaceLaw
-place = record { apart = apart; inside = inside; default = default }
+place = record { apart = apart; inside = inside; lock = lock; new_lock = new_lock; new_manifest = new_manifest; named = named; default = default }

@@ -1,5 +1,5 @@
 -- Laws of workspaces, in the subject's own words.
-use Rattle.std.specs.Prelude.{◌≡◌, ◌≢◌, ℕ, List, [], ◌∷◌, ◌++◌, Some, true, false}
+use Rattle.std.specs.Prelude.{◌≡◌, ◌≢◌, ℕ, List, [], ◌∷◌, ◌++◌, Some, true, false, codes}
 use Rattle.std.specs.List.{Contains}
 use Rattle.pn_text.specs.Path.{Path}
 use Rattle.pn_fs.specs.Tree.{Tree}
@@ -42,8 +42,13 @@ pub record AnswerLaw : Type 0 where
   pub either : (t : Tree) (place : Path) (w : Workspace) (e : WorkspaceFault) → IsOwn e → IsWorkspace t place w → NoWorkspace (Some t) place e → (n : ℕ) × (e ≡ fault.Long n)
 
 -- Where the virtual store lies: neither at a project's folder nor above one; in a project's `node_modules` only as the
--- default one; and not at the lockfile. The default one of a root that is the only project may lie there.
+-- default one; not at or below the lockfile, nor what is written in place of a lockfile or a manifest; and under another name
+-- than `node_modules`. The default one of a root that is the only project may lie there.
 pub record PlaceLaw : Type 0 where
   pub apart : (w : Workspace) (place : Path) (projects : List Path) (p q : Path) → IsPlaced w place projects p → Contains projects q → (s : Path) → q ≢ s ++ p
   pub inside : (w : Workspace) (place : Path) (projects : List Path) (p q : Path) → IsPlaced w place projects p → Contains projects q → (s : Path) → p ≡ s ++ modules_name ∷ q → p ≡ default_store w.root
+  pub lock : (w : Workspace) (place : Path) (projects : List Path) (p : Path) → IsPlaced w place projects p → (s : Path) → p ≢ s ++ codes "pnpm-lock.yaml" ∷ w.root
+  pub new_lock : (w : Workspace) (place : Path) (projects : List Path) (p : Path) → IsPlaced w place projects p → (s : Path) → p ≢ s ++ codes "pnpm-lock.yaml.pnpm-rs" ∷ w.root
+  pub new_manifest : (w : Workspace) (place : Path) (projects : List Path) (p : Path) → IsPlaced w place projects p → (s : Path) → p ≢ s ++ codes "package.json.pnpm-rs" ∷ place
+  pub named : (w : Workspace) (place : Path) (projects : List Path) (q : Path) → IsPlaced w place projects (modules_name ∷ q) → ⊥
   pub default : (root : Path) → is_misplaced root root (root ∷ []) (default_store root) ≡ false

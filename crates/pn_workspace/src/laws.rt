@@ -11,8 +11,9 @@ pub fn root_law()
     ensures { RootLaw }
 {}
 
-/// The virtual store lies neither at a project's folder nor above one, and in a project's `node_modules` only as the
-/// default one, which may always lie there.
+/// The virtual store lies neither at a project's folder nor above one, in a project's `node_modules` only as the default
+/// one, and not at the lockfile or what is written in its place. The default one of a root that is the only project may
+/// lie there.
 pub fn place_law()
     ensures { PlaceLaw }
 {}
