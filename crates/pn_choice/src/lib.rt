@@ -10,7 +10,6 @@ mod asked;
 mod built;
 mod face;
 mod fault;
-mod known;
 mod laws;
 mod package;
 mod project;
@@ -23,7 +22,6 @@ mod ways;
 
 pub use built::unbuilt_field;
 pub use fault::{ChoiceFault, RegistryLack};
-pub use known::Known;
 pub use laws::{folders_law, settled_law, short_law, words_law};
 pub use project::ProjectAt;
 pub use sources::{Sources, no_shelves};

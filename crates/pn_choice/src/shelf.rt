@@ -1,16 +1,14 @@
 // What the registry publishes under a name.
-ghost use Rattle.std.specs.Prelude.{◌≡◌, ◌⊎◌, List, Option, IfOk, OnOk, IfErr, IsSome};
+ghost use Rattle.std.specs.Prelude.{◌≡◌, ◌⊎◌, Option, Some, IfOk, OnOk, IfErr, IsSome};
 ghost use Rattle.std.specs.BTreeMap.{get_by_text};
 ghost use Rattle.pn_fs.specs.Seen.{Keeps};
 ghost use Rattle.pn_fs.specs.Tree.{Tree};
 ghost use Rattle.pn_published.specs.Shown.{shelf_of};
-ghost use Rattle.pn_walk.specs.Wants.{Id};
-ghost use Rattle.pn_choice.specs.Cached.{AreShown, IsKnownOf};
+ghost use Rattle.pn_choice.specs.Cached.{AreShown};
 ghost use Rattle.pn_choice.specs.Shows.{Publishes};
 ghost use Rattle.pn_choice.specs.Ways.{IsUnlisted, Broke};
 
 use crate::fault::RegistryLack;
-use crate::known::Known;
 use crate::way::WayFault;
 use pn_fs::ReadFs;
 use pn_published::{Published, PublishedFault, versions};
@@ -47,17 +45,17 @@ fn bad_tags(alloc: Global, name: &PkgName) -> WayFault
     }
 }
 
-/// Keeps what is known of a name.
+/// Keeps what is published under a name.
 pub fn keep(
     alloc: Global,
-    shelves: &mut BTreeMap<String, Known>,
+    shelves: &mut BTreeMap<String, Published>,
     name: &PkgName,
-    known: Known,
+    shelf: Published,
 ) -> Result<(), Memory>
-    ensures shown { (r : Option Tree) (held : List Id) → AreShown r held shelves.old → IsKnownOf r held name.now known → AreShown r held shelves.new }
+    ensures shown { (r : Option Tree) → AreShown r shelves.old → Publishes r name.now (shelf_of shelf) → AreShown r shelves.new }
     ensures listed { OnOk result (IsSome (get_by_text shelves.new name.now)) }
 {
     let key = String::from_str(alloc, name.as_str())?;
-    shelves.insert(key, known)?;
+    shelves.insert(key, shelf)?;
     Ok(())
 }

@@ -36,7 +36,7 @@ pub fn plain<R: ReadFs>(
     root: ProjIx,
     auto_peers: bool,
 ) -> Result<Plain, ChoiceFault>
-    requires good { AreShown (R.seen sources.old.registry.now).tree sources.old.held.now sources.old.shelves.now }
+    requires good { AreShown (R.seen sources.old.registry.now).tree sources.old.shelves.now }
     requires folders { AreRising (map folder_of projects.now) }
     requires rising { All IsRisingProject projects.now }
     requires within { root.0 < length projects.now }
@@ -46,7 +46,7 @@ pub fn plain<R: ReadFs>(
     ensures kept { Keeps (R.seen sources.old.registry.now) (R.seen sources.new.registry.now) }
     ensures same_reference { sources.new.registry.ghost_name ≡ sources.old.registry.ghost_name }
     ensures held { sources.new.held.now ≡ sources.old.held.now }
-    ensures good { AreShown (R.seen sources.new.registry.now).tree sources.new.held.now sources.new.shelves.now }
+    ensures good { AreShown (R.seen sources.new.registry.now).tree sources.new.shelves.now }
 {
     let queue = walk(alloc, sources, projects, auto_peers)?;
     let plain = whole(alloc, projects, root, queue)?;
@@ -60,14 +60,14 @@ fn walk<R: ReadFs>(
     projects: &[ProjectAt],
     auto_peers: bool,
 ) -> Result<Queue, ChoiceFault>
-    requires good { AreShown (R.seen sources.old.registry.now).tree sources.old.held.now sources.old.shelves.now }
+    requires good { AreShown (R.seen sources.old.registry.now).tree sources.old.shelves.now }
     requires few { length projects.now < 2 ^ 32 }
     ensures walked { IfOk result (λ q. IsWalked (LeadsBy (R.seen sources.old.registry.now).tree sources.old.held.now) (IsNodeOf (R.seen sources.old.registry.now).tree) (first auto_peers projects.now) (at [] q)) }
     ensures refused { IfErr result (Refuses (λ r f. Unplain (inputs_by projects.now sources.old.held.now auto_peers) r f) (R.seen sources.old.registry.now) (R.seen sources.new.registry.now)) }
     ensures kept { Keeps (R.seen sources.old.registry.now) (R.seen sources.new.registry.now) }
     ensures same_reference { sources.new.registry.ghost_name ≡ sources.old.registry.ghost_name }
     ensures held { sources.new.held.now ≡ sources.old.held.now }
-    ensures good { AreShown (R.seen sources.new.registry.now).tree sources.new.held.now sources.new.shelves.now }
+    ensures good { AreShown (R.seen sources.new.registry.now).tree sources.new.shelves.now }
 {
     let asks = asks(alloc, projects, auto_peers)?;
     match walked(alloc, sources, asks.as_slice()) {

@@ -1,5 +1,5 @@
 // The version that is chosen.
-ghost use Rattle.std.specs.Prelude.{◌≡◌, ◌++◌, IfOk, OnOk, Some, map, option_map, slice_get};
+ghost use Rattle.std.specs.Prelude.{◌≡◌, ◌++◌, [], IfOk, OnOk, Some, map, option_map, codes, slice_get};
 ghost use Rattle.semver.specs.Identifiers.{parts_of};
 ghost use Rattle.pn_published.specs.Listed.{number, tagged};
 ghost use Rattle.pn_published.specs.Shown.{shelf_of};
@@ -10,7 +10,6 @@ ghost use Rattle.pn_plain.specs.Given.{held_of, tag_place, choice_of, version_of
 ghost use Rattle.pn_choice.specs.Given.{held_by, held_as};
 
 use crate::asked::NamedWant;
-use crate::known::Known;
 use pn_published::{Published, Tag, choose};
 use pn_spec::Want;
 use pn_text::{Memory, PkgId, PkgName, Text, VersionIx};
@@ -18,12 +17,18 @@ use semver::Version;
 use std::alloc::Global;
 
 /// The package of the version that is chosen of a name.
-pub fn chosen(alloc: Global, known: &Known, asked: NamedWant) -> Result<Option<PkgId>, Memory>
-    ensures { IfOk result (λ id. id ≡ option_map (id_at asked.name) (version_of (shelf_of known.now.published) (map parts_of known.now.held.items) asked.want)) }
+pub fn chosen(
+    alloc: Global,
+    list: &Published,
+    held: &[PkgId],
+    asked: NamedWant,
+) -> Result<Option<PkgId>, Memory>
+    ensures { IfOk result (λ id. id ≡ option_map (id_at asked.name) (version_of (shelf_of list.now) (held_of asked.name (held_by held.now)) asked.want)) }
 {
     let NamedWant { name, want } = asked;
-    match choice(&known.published, known.held.as_slice(), want) {
-        Some(at) => id_at(alloc, &name, known.published.versions.as_slice(), at),
+    let held = held_versions(alloc, held, &name)?;
+    match choice(list, held.as_slice(), want) {
+        Some(at) => id_at(alloc, &name, list.versions.as_slice(), at),
         None => Ok(None),
     }
 }
@@ -59,9 +64,9 @@ fn tag_at(tags: &[Tag], tag: &Text) -> Option<VersionIx>
     None
 }
 
-/// The held versions of a name.
+// The held versions of a name.
 #[tactic(auto, using(crate::proofs::VersionLemmas::held_next))]
-pub fn held_versions(alloc: Global, held: &[PkgId], name: &PkgName) -> Result<Vec<Version>, Memory>
+fn held_versions(alloc: Global, held: &[PkgId], name: &PkgName) -> Result<Vec<Version>, Memory>
     ensures { IfOk result (λ v. map parts_of v.items ≡ held_of name.now (held_by held.now)) }
 {
     let mut versions = Vec::new(alloc);

@@ -17,7 +17,7 @@ use std::alloc::Global;
 impl<'a, 'b, 'c, R: ReadFs> Ways for Sources<'a, 'b, 'c, R> {
     type Fault = WayFault;
 
-    ghost good = { λ s. AreShown (R.seen s.registry.now).tree s.held.now s.shelves.now };
+    ghost good = { λ s. AreShown (R.seen s.registry.now).tree s.shelves.now };
 
     ghost leads = { λ s w a. LeadsBy (R.seen s.registry.now).tree s.held.now w a };
 

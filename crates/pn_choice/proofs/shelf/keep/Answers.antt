@@ -9,6 +9,6 @@ use Rattle.pn_choice.proofs.shelf.keep.Goals as goal
 pub returns-clause-shown : goal.returns-clause-shown
 returns-clause-shown c =
     let key : string_bytes c.in_ok-key.key ≡ c.args.name.now = c.in_ok-key.ensures.ok ∙ c.as_str.ensures.text in
-    λ r held shown knows. shown_more r held c.args.shelves.now c.insert.new.self c.args.name.now c.args.known
-    (subst (λ (n : List ℕ). (m : List ℕ) → get_by_text c.insert.new.self m ≡ (if bytes_eq n m then Some c.args.known else get_by_text c.args.shelves.now m)) key
-    (btree_map_updates_text (string_bytes c.in_ok-key.key) c.args.shelves.now c.insert.new.self (Some c.args.known) c.in_ok-insert.ensures.updates)) shown knows
+    λ r shown publishes. shown_more r c.args.shelves.now c.insert.new.self c.args.name.now c.args.shelf
+    (subst (λ (n : List ℕ). (m : List ℕ) → get_by_text c.insert.new.self m ≡ (if bytes_eq n m then Some c.args.shelf else get_by_text c.args.shelves.now m)) key
+    (btree_map_updates_text (string_bytes c.in_ok-key.key) c.args.shelves.now c.insert.new.self (Some c.args.shelf) c.in_ok-insert.ensures.updates)) shown publishes

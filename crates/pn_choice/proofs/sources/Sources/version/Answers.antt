@@ -1,11 +1,9 @@
-use Rattle.std.proofs.Common.{◌≡◌, ◌∙◌, ap, sym, Some, subst, List}
+use Rattle.std.proofs.Common.{◌≡◌, ◌∙◌, ap, sym, Some, subst, List, ℕ}
 use Rattle.std.specs.Prelude.{Option, option_map}
 use Rattle.std.specs.BTreeMap.{get_by_text}
-use Rattle.semver.specs.Parse.{Parts}
 use Rattle.pn_fs.specs.Tree.{Tree}
 use Rattle.pn_published.specs.Shown.{shelf_of}
-use Rattle.pn_plain.specs.Aims.{id_at}
-use Rattle.pn_plain.specs.Given.{version_of}
+use Rattle.pn_published.specs.declared.published.Published.{Published}
 use Rattle.pn_walk.specs.Wants.{Id}
 use Rattle.pn_choice.specs.Shows.{Publishes}
 use Rattle.pn_choice.specs.Ways.{IsVersionIn}
@@ -14,13 +12,8 @@ use Rattle.pn_choice.proofs.sources.Sources.version.Goals as goal
 
 pub returns-clause-version : goal.returns-clause-version
 returns-clause-version g c =
-    let known = c.in-Some.known.now in
-    let name = c.args.asked.name in
-    let tree = (g.R.ReadFs.seen c.args.self.now.registry.now).tree in
-    let id = c.in_ok-chosen-in-Some.field-0 in
-    let found : get_by_text c.list.new.self.shelves.now name ≡ Some known = ap (get_by_text c.list.new.self.shelves.now) (sym c.as_str.ensures.text) ∙ sym c.in-Some.ensures.value in
-    let knows = c.list.ensures.good name known found in
-    let shows : Publishes tree name (shelf_of known.published) = subst (λ (r : Option Tree). Publishes r name (shelf_of known.published)) c.list.ensures.goes.kept.tree knows.publishes in
-    subst (λ (held : List Id). IsVersionIn tree held name c.args.asked.want id) c.list.ensures.goes.held_is
-    (version_in tree c.list.new.self.held.now name c.args.asked.want known.published id shows
-    (c.in_ok-chosen-in-Some.ensures ∙ ap (λ (vs : List Parts). option_map (id_at name) (version_of (shelf_of known.published) vs c.args.asked.want)) knows.holds))
+    let found : get_by_text c.list.new.self.shelves.now c.args.asked.name ≡ Some c.in-Some.list.now = ap (get_by_text c.list.new.self.shelves.now) (sym c.as_str.ensures.text) ∙ sym c.in-Some.ensures.value in
+    let shows : Publishes (g.R.ReadFs.seen c.args.self.now.registry.now).tree c.args.asked.name (shelf_of c.in-Some.list.now) =
+    subst (λ (r : Option Tree). Publishes r c.args.asked.name (shelf_of c.in-Some.list.now)) c.list.ensures.goes.kept.tree (c.list.ensures.good c.args.asked.name c.in-Some.list.now found) in
+    subst (λ (held : List Id). IsVersionIn (g.R.ReadFs.seen c.args.self.now.registry.now).tree held c.args.asked.name c.args.asked.want c.in_ok-chosen-in-Some.field-0) c.list.ensures.goes.held_is
+    (version_in (g.R.ReadFs.seen c.args.self.now.registry.now).tree c.list.new.self.held.now c.args.asked.name c.args.asked.want c.in-Some.list.now c.in_ok-chosen-in-Some.field-0 shows c.in_ok-chosen-in-Some.ensures)
