@@ -26,9 +26,10 @@ pub fn package<R: ReadFs>(alloc: Global, registry: &mut R, id: &PkgId) -> Result
     ensures broke { IfErr result (Broke (R.seen registry.old) (R.seen registry.new)) }
 {
     let manifest = read(alloc, registry, id)?;
-    refuse_unbuilt(alloc, id, &manifest)?;
-    let node = face(alloc, id, &manifest)?;
-    Ok(node)
+    match refuse_unbuilt(alloc, id, &manifest) {
+        Ok(()) => Ok(face(alloc, id, &manifest)?),
+        Err(fault) => Err(fault),
+    }
 }
 
 // What the manifest of a package says.

@@ -12,8 +12,8 @@ returns-then-ne c =
     ap (λ (x : List ℕ). not (bytes_eq x c.as_str-2.result.now)) (c.as_str.ensures.text ∙ c.name.ensures) ∙ ap (λ (x : List ℕ). not (bytes_eq (id_name c.args.id.now) x)) c.as_str-2.ensures.text in
     put_other (map parts_of c.args.versions.now.items) c.args.name.now c.args.id.now (sym c.if-ne.true ∙ c.ne.ensures ∙ names)
 
-pub returns-in_ok-push : goal.returns-in_ok-push
-returns-in_ok-push c =
+pub returns : goal.returns
+returns c =
     let names : not (bytes_eq c.as_str.result.now c.as_str-2.result.now) ≡ not (bytes_eq (id_name c.args.id.now) c.args.name.now) =
     ap (λ (x : List ℕ). not (bytes_eq x c.as_str-2.result.now)) (c.as_str.ensures.text ∙ c.name.ensures) ∙ ap (λ (x : List ℕ). not (bytes_eq (id_name c.args.id.now) x)) c.as_str-2.ensures.text in
     put_same c.args.versions.now.items c.push.new.self.items c.in_ok-version.version c.args.name.now c.args.id.now (sym c.if-ne.false ∙ c.ne.ensures ∙ names)

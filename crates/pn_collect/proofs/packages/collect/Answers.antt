@@ -33,7 +33,7 @@ returns-clause-packages g c =
 
 pub returns-in_err-packages-clause-refused : goal.returns-in_err-packages-clause-refused
 returns-in_err-packages-clause-refused g c =
-    let p = err_from_is_err_and c.from_residual.result c.from_residual.ensures.1 in
+    let p = err_from_is_err_and c.from_residual-in_err-packages.result c.from_residual-in_err-packages.ensures.1 in
     let plain = c.args.plain.now in
     let bare = c.as_slice.result.now in
     let old = g.R.ReadFs.seen c.args.registry.now in
