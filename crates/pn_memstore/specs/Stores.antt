@@ -6,6 +6,7 @@ use Rattle.pn_text.specs.declared.fault.DevFault.TheVariants.{Memory}
 use Rattle.pn_storecore.specs.declared.step.StoreStep.{StoreStep}
 use Rattle.pn_memstore.specs.declared.sure.SureStore.{SureStore}
 use Rattle.pn_memstore.specs.declared.mem.MemStore.{MemStore}
+use Rattle.pn_memstore.specs.declared.found.FoundStore.{FoundStore}
 use Rattle.pn_storecore.specs.Steps.{Journal}
 use Rattle.pn_storecore.specs.Seen.{Seen}
 use Rattle.pn_memstore.specs.Script.{Script, Goes}
@@ -23,6 +24,9 @@ mem_journal s = sure_journal s.store
 
 abbrev pub mem_seen : MemStore → Seen
 mem_seen s = record { journal = Some (mem_journal s); me = s.store.me; faults = s.turns.faults }
+
+abbrev pub found_seen : FoundStore → Seen
+found_seen s = record { journal = Some s.journal.items; me = s.me; faults = 0 }
 
 abbrev pub script_of : MemStore → Script
 script_of s = record { others = to_come s.schedule; fails = is_listed s.turns.fail.items; next = s.turns.calls; faults = s.turns.faults }
