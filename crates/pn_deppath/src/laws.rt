@@ -7,7 +7,8 @@ pub fn folder_law()
     ensures { FolderLaw }
 {}
 
-/// A dep path is the text of an id and its groups, and an id alone is a dep path.
+/// Each dep path is made of a name, a version and groups, and is ASCII. A name, a version and groups without a patch make
+/// one.
 pub fn path_law()
     ensures { PathLaw }
 {}
