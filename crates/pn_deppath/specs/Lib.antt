@@ -1,0 +1,6 @@
+-- what contracts cite
+pub mod Cuts
+pub mod Paths
+pub mod Folders
+pub mod PathLaw
+pub mod Numbers

@@ -1,0 +1,22 @@
+//! Dep paths, and the names of the folders of a virtual store.
+//!
+//! A dep path is a package's id and groups in parentheses, which say what its peers are: `react-dom@18.3.1(react@18.3.1)`.
+//! `is_dep_path` tests the grammar. `folder_names` gives each of some dep paths its folder's name; no two of them have the
+//! same one, whatever their digests are.
+//!
+//!     let names = folder_names(alloc, paths)?; // react-dom@18.3.1_react@18.3.1
+#![tactic(auto)]
+
+mod ascii;
+mod folder;
+mod laws;
+mod names;
+mod path;
+mod plain;
+
+pub use folder::folder_names;
+pub use laws::{folder_law, path_law};
+pub use path::{base_path, is_dep_path, split_path};
+
+#[cfg(test)]
+mod tests;
