@@ -69,6 +69,7 @@ const orders = [
   row('the virtual store before a lockfile', 30, 'not yet: virtualStoreDir', { project: { ...needsA, 'pnpm-workspace.yaml': 'virtualStoreDir: v\n', 'pnpm-lock.yaml': '' } }),
   row('a wrong line before a wrong key', 3, `manifest: ${path}: line 2: key`, { project: { ...needsA, 'pnpm-workspace.yaml': 'hoist: 1\nx\n' } }),
   row('a workspace file past 16,777,216 bytes', 11, 'limit: text 16777217', { project: { ...needsA, 'pnpm-workspace.yaml': Buffer.alloc(16777217, ' ') } }),
+  row('a virtual store whose path is too long', 11, 'limit: path 4097', { project: { ...needsA, 'pnpm-workspace.yaml': `virtualStoreDir: ${'v/'.repeat(2050)}\n` }, registry: packA() }),
   row('a folder called pnpm-workspace.yaml', 0, '', { project: { ...needsA, 'pnpm-workspace.yaml': null }, registry: packA() }),
 ];
 
