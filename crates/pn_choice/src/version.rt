@@ -82,9 +82,16 @@ fn put(versions: &mut Vec<Version>, id: &PkgId, name: &PkgName) -> Result<(), Me
     if id.name().as_str() != name.as_str() {
         return Ok(());
     }
-    let version = id.version().clone()?;
+    let version = copy_of(id.version())?;
     versions.push(version)?;
     Ok(())
+}
+
+// An equal version.
+fn copy_of(version: &Version) -> Result<Version, Memory>
+    ensures { IfOk result (λ v. parts_of v ≡ parts_of version.now) }
+{
+    Ok(version.clone()?)
 }
 
 // The package of the version at a place.
