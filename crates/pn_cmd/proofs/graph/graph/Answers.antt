@@ -1,4 +1,4 @@
-use Rattle.std.proofs.Common.{rules, subst}
+use Rattle.std.proofs.Common.{◌≡◌, rules, subst}
 use Rattle.pn_manifest.specs.Says.{said_of}
 use Rattle.pn_choice.specs.Graphs.{IsGraphOf}
 use Rattle.pn_choice.specs.Refusals.{Unplain}
@@ -27,5 +27,6 @@ returns-clause-refused g c project out =
     let seen = g.R.ReadFs.seen in
     let m = said_of c.args.manifest in
     let refused : ChoiceRefuses (λ r f. Unplain (inputs_of m) r f) (seen c.args.registry.now) (seen c.plain.new.sources.registry.now) c.in-Err.fault = search rules in
-    subst {x = c.plain.new.sources.registry.now} (λ x. Refuses (HasNoGraph m) (world project (seen c.args.registry.now) out) (world project (seen x) out) c.ungraphed.result) (search rules)
+    let same : c.plain.new.sources.registry.now ≡ c.registry-1.given.0 = search rules in
+    subst (λ x. Refuses (HasNoGraph m) (world project (seen c.args.registry.now) out) (world project (seen x) out) c.ungraphed.result) same
     (graph_refused m project (seen c.args.registry.now) (seen c.plain.new.sources.registry.now) out c.in-Err.fault c.ungraphed.result refused c.ungraphed.ensures)
