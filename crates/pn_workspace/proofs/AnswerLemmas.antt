@@ -55,7 +55,7 @@ wrong_one : (e : Option Entry) (u v : WorkspaceWhy) → IsWrong e u → IsWrong 
 wrong_one e u v h k = why_one h.0 k.0 u v (file_once e h.0 k.0 h.1.is k.1.is) h.2 k.2
 
 -- a file past the limit is read as nothing
-too_large : (e : Option Entry) (n : ℕ) (bytes : List ℕ) → TEXT_LIMIT < n → IsFileOf n e → IsText e bytes → ⊥
+pub too_large : (e : Option Entry) (n : ℕ) (bytes : List ℕ) → TEXT_LIMIT < n → IsFileOf n e → IsText e bytes → ⊥
 too_large e n bytes large h text = omega (arith, text.short, ap length (file_once e bytes h.0 text.is h.1), h.2, large)
 
 -- what bytes say isn't wrong
@@ -98,10 +98,10 @@ fault_one t place fault.Memory f o u h k = absurd o
 fault_one t place e fault.Fault o u h k = absurd u
 fault_one t place e fault.Memory o u h k = absurd u
 
-either : (t : Tree) (place : Path) (w : Workspace) (e : WorkspaceFault) → IsOwn e → IsWorkspace t place w → NoWorkspace (Some t) place e → (n : ℕ) × (e ≡ fault.Long n)
-either t place w (fault.Long n) o h k = (n, refl)
-either t place w (fault.TooLarge n) o h k = absurd (says_small (t (settings_path (root_of t place))) w.config n k.1 h.says k.2)
-either t place w (fault.Wrong p v) o h k = absurd (says_right (t (settings_path (root_of t place))) w.config v h.says k.1.1)
+either : (t : Tree) (place : Path) (w : Workspace) (e : WorkspaceFault) → IsOwn e → IsWorkspace t place w → NoWorkspace (Some t) place e → ⊥
+either t place w (fault.Long n) o h k = omega (arith, h.fits, k.0, k.1)
+either t place w (fault.TooLarge n) o h k = says_small (t (settings_path (root_of t place))) w.config n k.1 h.says k.2
+either t place w (fault.Wrong p v) o h k = says_right (t (settings_path (root_of t place))) w.config v h.says k.1.1
 either t place w fault.Fault o h k = absurd o
 either t place w fault.Memory o h k = absurd o
 

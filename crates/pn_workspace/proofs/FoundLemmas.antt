@@ -20,13 +20,14 @@ found_root : (t : Tree) (place : Path) (f : Found) → IsFound t place (Some f) 
 found_root t place f h = ap (or_here place) h.0
 
 -- the workspace of the file that was found
-pub with_file : (r : Result Workspace WorkspaceFault) (shown : Option Tree) (place : Path) (f : Found) → IfSome shown (λ t. IsFound t place (Some f)) → IfOk r (λ w. w.root ≡ f.root) → IfOk r (λ w. SaysBytes f.bytes.items w.config)
+pub with_file : (r : Result Workspace WorkspaceFault) (shown : Option Tree) (place : Path) (f : Found) → Fits place → IfSome shown (λ t. IsFound t place (Some f)) → IfOk r (λ w. w.root ≡ f.root) → IfOk r (λ w. SaysBytes f.bytes.items w.config)
     → IfSome shown (λ t. IfOk r (IsWorkspace t place))
-with_file r None place f found root says = tt
-with_file (Err e) (Some t) place f found root says = tt
-with_file (Ok w) (Some t) place f found root says =
+with_file r None place f fits found root says = tt
+with_file (Err e) (Some t) place f fits found root says = tt
+with_file (Ok w) (Some t) place f fits found root says =
     let at = found_root t place f found in
     record {
+      fits = fits;
       root = root ∙ sym at;
       says = subst (λ p. Says (t (settings_path p)) w.config) (sym at) (record {
         value = Some says.0;
@@ -36,13 +37,14 @@ with_file (Ok w) (Some t) place f found root says =
     }
 
 -- the workspace of a folder where no file was found
-pub without_file : (r : Result Workspace WorkspaceFault) (shown : Option Tree) (place : Path) → IfSome shown (λ t. nearest t place ≡ None) → IfOk r (λ w. w.root ≡ place) → IfOk r (λ w. ReadsConfig None [] w.config)
+pub without_file : (r : Result Workspace WorkspaceFault) (shown : Option Tree) (place : Path) → Fits place → IfSome shown (λ t. nearest t place ≡ None) → IfOk r (λ w. w.root ≡ place) → IfOk r (λ w. ReadsConfig None [] w.config)
     → IfSome shown (λ t. IfOk r (IsWorkspace t place))
-without_file r None place none root says = tt
-without_file (Err e) (Some t) place none root says = tt
-without_file (Ok w) (Some t) place none root says =
+without_file r None place fits none root says = tt
+without_file (Err e) (Some t) place fits none root says = tt
+without_file (Ok w) (Some t) place fits none root says =
     let at : root_of t place ≡ place = ap (or_here place) none in
     record {
+      fits = fits;
       root = root ∙ sym at;
       says = subst (λ p. Says (t (settings_path p)) w.config) (sym at) (record {
         value = None;

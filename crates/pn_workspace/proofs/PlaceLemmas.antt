@@ -4,7 +4,7 @@ use Rattle.std.specs.Prelude.{Bool, not, ◌&&◌, ◌||◌}
 use Rattle.std.specs.List.{Contains, list_any}
 use Rattle.std.proofs.lemmas.List.Folds.{list_any_at}
 use Rattle.pn_text.specs.Path.{Path, same_path}
-use Rattle.pn_text.proofs.Bools.{and_false, left_false, right_false, true_false}
+use Rattle.pn_text.proofs.Bools.{and_false, both_false, left_false, right_false, true_false}
 use Rattle.pn_text.proofs.Paths.{deeper, same_path-Decides, same_path_refl}
 use Rattle.pn_plan.specs.Drawing.{is_within}
 use Rattle.pn_plan.proofs.WithinLemmas.{is_within_at, within_from}
@@ -99,9 +99,6 @@ not_above root = elim (is_within (default_store root) root) as (λ b. is_within 
   | true ↦ λ is. let w = within_from (default_store root) root is in absurd (too_deep w.0 (modules_name ∷ []) (codes ".pnpm") root w.1)
   | false ↦ λ is. refl
 ] refl
-
-both_false : (a b : Bool) → a ≡ false → b ≡ false → (a || b) ≡ false
-both_false a b h k = ap (λ x. x || b) h ∙ k
 
 -- where the first four are false
 pub last_of_five : (a b c d e : Bool) → a ≡ false → b ≡ false → c ≡ false → d ≡ false → (a || (b || (c || (d || e)))) ≡ e

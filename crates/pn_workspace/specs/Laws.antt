@@ -1,5 +1,5 @@
 -- Laws of workspaces, in the subject's own words.
-use Rattle.std.specs.Prelude.{◌≡◌, ◌≢◌, ℕ, List, [], ◌∷◌, ◌++◌, Some, true, false, codes}
+use Rattle.std.specs.Prelude.{◌≡◌, ◌≢◌, List, [], ◌∷◌, ◌++◌, Some, true, false, codes}
 use Rattle.std.specs.List.{Contains}
 use Rattle.pn_text.specs.Path.{Path}
 use Rattle.pn_fs.specs.Tree.{Tree}
@@ -35,11 +35,11 @@ IsOwn fault.Fault = ⊥
 IsOwn fault.Memory = ⊥
 IsOwn f = Unit {0}
 
--- A known tree gives a folder one workspace or one refusal, and never both.
+-- A known tree gives a folder at most one workspace, at most one refusal, and never both.
 pub record AnswerLaw : Type 0 where
   pub value : (t : Tree) (place : Path) (w v : Workspace) → IsWorkspace t place w → IsWorkspace t place v → w ≡ v
   pub refusal : (t : Tree) (place : Path) (e f : WorkspaceFault) → IsOwn e → IsOwn f → NoWorkspace (Some t) place e → NoWorkspace (Some t) place f → e ≡ f
-  pub either : (t : Tree) (place : Path) (w : Workspace) (e : WorkspaceFault) → IsOwn e → IsWorkspace t place w → NoWorkspace (Some t) place e → (n : ℕ) × (e ≡ fault.Long n)
+  pub either : (t : Tree) (place : Path) (w : Workspace) (e : WorkspaceFault) → IsOwn e → IsWorkspace t place w → NoWorkspace (Some t) place e → ⊥
 
 -- Where the virtual store lies: neither at a project's folder nor above one; in a project's `node_modules` only as the
 -- default one; not at or below the lockfile, nor what is written in place of a lockfile or a manifest; and under another name

@@ -17,14 +17,15 @@ use Rattle.pn_workspace.specs.declared.fault.WorkspaceFault.TheVariants as fault
 use Rattle.pn_workspace.specs.declared.search.Found.{Found}
 use Rattle.pn_workspace.specs.declared.search.Workspace.{Workspace}
 
--- The root, and what its workspace file says.
-pub record IsWorkspace (t : Tree) (place : Path) (w : Workspace) : Type 0 where
-  pub root : w.root ≡ root_of t place
-  pub says : Says (t (settings_path (root_of t place))) w.config
-
 -- The path of the folder's own workspace file is within the limit; those above it are shorter.
 abbrev pub Fits : Path → Type 0
 Fits place = length (path_text (settings_path place)) ≤ PATH_LIMIT
+
+-- The root, and what its workspace file says.
+pub record IsWorkspace (t : Tree) (place : Path) (w : Workspace) : Type 0 where
+  pub fits : Fits place
+  pub root : w.root ≡ root_of t place
+  pub says : Says (t (settings_path (root_of t place))) w.config
 
 -- Why there is no workspace: that path is too long, or the root's file is too large or wrong. A path that is too long isn't
 -- asked for.

@@ -1,7 +1,7 @@
 // Laws of workspaces.
 ghost use Rattle.pn_workspace.specs.Laws.{AnswerLaw, PlaceLaw, RootLaw};
 
-/// A known tree gives a folder one workspace or one refusal, and never both.
+/// A known tree gives a folder at most one workspace, at most one refusal, and never both.
 pub fn answer_law()
     ensures { AnswerLaw }
 {}

@@ -1,7 +1,7 @@
 // The search for a workspace.
-ghost use Rattle.std.specs.Prelude.{◌≡◌, ◌≤◌, [], None, OnOk, IfOk, IfErr, IfSome, length};
+ghost use Rattle.std.specs.Prelude.{◌≡◌, ◌≤◌, ◌+◌, [], None, OnOk, IfOk, IfErr, IfSome, length};
 ghost use Rattle.pn_text.specs.declared.limits.TheConstants.{TEXT_LIMIT};
-ghost use Rattle.pn_fs.specs.Seen.{Keeps};
+ghost use Rattle.pn_fs.specs.Seen.{GaveAtMost, GaveNothing, Keeps};
 ghost use Rattle.pn_config.specs.Files.{ReadsConfig};
 ghost use Rattle.pn_workspace.specs.Contents.{SaysBytes};
 ghost use Rattle.pn_workspace.specs.Roots.{settings_path};
@@ -9,9 +9,9 @@ ghost use Rattle.pn_workspace.specs.Workspaces.{Fits, HasFile, IsFound, IsReadAt
 
 use crate::fault::{WorkspaceFault, WorkspaceWhy};
 use pn_config::{Config, ConfigFault};
-use pn_fs::ReadFs;
+use pn_fs::{Kind, ReadFs};
 use pn_read::{SmallFault, read_small};
-use pn_text::{AbsPath, Memory, PATH_LIMIT, PathFault, TEXT_LIMIT};
+use pn_text::{AbsPath, DevFault, Memory, PATH_LIMIT, PathFault, TEXT_LIMIT};
 use pn_yaml::{YamlFault, read};
 use std::alloc::Global;
 
@@ -32,8 +32,9 @@ pub(crate) struct Found {
     bytes: Vec<u8>,
 }
 
-/// The workspace that a folder lies in: the nearest of the folder and those above it that has a `pnpm-workspace.yaml`
-/// of at most 16,777,216 bytes, with what that file says; the folder itself with the default settings where none has.
+/// The workspace that a folder lies in: the nearest of the folder and those above it that has a `pnpm-workspace.yaml`,
+/// with what that file says, or a refusal where it has more than 16,777,216 bytes; the folder itself with the default
+/// settings where none has. No other file is read.
 pub fn find<P: ReadFs>(
     alloc: Global,
     place: &AbsPath,
@@ -42,6 +43,7 @@ pub fn find<P: ReadFs>(
     ensures fits { OnOk result (Fits place.now) }
     ensures found { IfSome (P.seen fs.old).tree (λ t. IfOk result (IsWorkspace t place.now)) }
     ensures refused { IfErr result (Refused (P.seen fs.old) (P.seen fs.new) place.now) }
+    ensures gave { IfSome (P.seen fs.old).tree (λ t. GaveAtMost (P.seen fs.old) (TEXT_LIMIT + 1) 0 (P.seen fs.new)) }
     ensures kept { Keeps (P.seen fs.old) (P.seen fs.new) }
 {
     let length = place.child_length(NAME);
@@ -64,6 +66,7 @@ fn search<P: ReadFs>(
     ensures found { IfSome (P.seen fs.old).tree (λ t. IfOk result (IsFound t place.now)) }
     ensures file { IfOk result (λ o. IfSome o HasFile) }
     ensures refused { IfErr result (Refused (P.seen fs.old) (P.seen fs.new) place.now) }
+    ensures gave { IfSome (P.seen fs.old).tree (λ t. GaveAtMost (P.seen fs.old) (TEXT_LIMIT + 1) 0 (P.seen fs.new)) }
     ensures kept { Keeps (P.seen fs.old) (P.seen fs.new) }
 {
     let mut at = place.copy(alloc)?;
@@ -104,8 +107,16 @@ fn read_file<P: ReadFs>(
     ensures read { IfSome (P.seen fs.old).tree (λ t. IfOk result (IsReadAt (t path.now))) }
     ensures short { IfOk result (λ o. IfSome o (λ bytes. length bytes.items ≤ TEXT_LIMIT)) }
     ensures unread { IfErr result (Unread (P.seen fs.old) (P.seen fs.new) path.now) }
+    ensures gave { IfSome (P.seen fs.old).tree (λ t. GaveAtMost (P.seen fs.old) (TEXT_LIMIT + 1) 0 (P.seen fs.new)) }
+    ensures none { IfSome (P.seen fs.old).tree (λ t. IfOk result (λ o. o ≡ None → GaveNothing (P.seen fs.old) (P.seen fs.new))) }
     ensures kept { Keeps (P.seen fs.old) (P.seen fs.new) }
 {
+    match fs.kind(path) {
+        Ok(Kind::File(_)) => {}
+        Ok(_) => return Ok(None),
+        Err(DevFault::Failed) => return Err(WorkspaceFault::Fault),
+        Err(DevFault::Memory) => return Err(WorkspaceFault::Memory),
+    }
     match read_small(alloc, fs, path, TEXT_LIMIT) {
         Ok(bytes) => Ok(Some(bytes)),
         Err(SmallFault::Missing) => Ok(None),
