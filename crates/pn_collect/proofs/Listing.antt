@@ -11,7 +11,7 @@ use Rattle.pn_text.specs.Ids.{is_id}
 use Rattle.pn_text.specs.Name.{holds_modules}
 use Rattle.pn_text.proofs.Members.{from_map, to_map}
 use Rattle.pn_fs.specs.Tree.{Tree, file}
-use Rattle.pn_registry.specs.Files.{File, holds_line_feed, entry_below, IsFilesOf, IsClean, IsRising, IsShortBelow}
+use Rattle.pn_registry.specs.Files.{File, holds_line_feed, entry_below, IsFilesOf, IsClean, IsRising, IsShortBelow, IsOneLine}
 use Rattle.pn_registry.specs.Apart.{AreApart}
 use Rattle.pn_registry.specs.Below.{HasFew}
 use Rattle.pn_registry.specs.FilesFaults.{entry_limit}
@@ -27,8 +27,8 @@ texts_of [] = refl
 texts_of (f ∷ files) = ap (λ (l : List (List ℕ)). text_below f.0 ∷ l) (texts_of files)
 
 pub sound_files : (folder : Path) (files : List File) (paths : List Path) → paths ≡ map path_of files → All IsBelow paths → All IsClean files
-    → AreApart files → All (IsShortBelow folder) files → IsRising files → AreSoundFiles folder paths
-sound_files folder files paths same below clean apart short rising =
+    → AreApart files → All (IsShortBelow folder) files → All IsOneLine files → IsRising files → AreSoundFiles folder paths
+sound_files folder files paths same below clean apart short lines rising =
     let at = λ (f : Path) (c : Contains paths f). from_map path_of files f (subst (λ (l : List Path). Contains l f) same c) in
     record {
       rising = subst (IsStrictlySortedBy (slice_cmp nat_cmp)) (sym (ap (map text_below) same ∙ texts_of files)) rising;
@@ -43,6 +43,9 @@ sound_files folder files paths same below clean apart short rising =
       short = λ f c.
           let x = at f c in
           subst (λ (p : Path). length (path_text (p ++ folder)) ≤ PATH_LIMIT) x.2 (All-contains (IsShortBelow folder) files x.0 short x.1);
+      lines = λ f c.
+          let x = at f c in
+          subst (λ (p : Path). holds_line_feed p ≡ false) x.2 (All-contains IsOneLine files x.0 lines x.1);
     }
 
 -- a file that counts has no line feed in its path

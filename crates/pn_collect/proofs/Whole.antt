@@ -140,6 +140,7 @@ are_packages r plain v is files = record {
   whole = whole plain v is;
   exact = exact plain v is;
   sorted = in_order plain v is;
+  made = is.made;
   rising = λ p c. (All-contains IsMade v p is.made c).files.rising;
   stand = if_all (λ t. All (HasFiles t) v) (λ t. FilesStand t v) r (λ t. files_stand t v) files;
   files = if_all (λ t. All (HasFiles t) v) (λ t. HaveFiles t v) r (λ t. have_files t v) files;

@@ -86,12 +86,14 @@ HaveFiles t packages = (p : Package) → Contains packages p → HasFiles t p
 abbrev pub AreRising : List Path → Type 0
 AreRising files = IsStrictlySortedBy (slice_cmp nat_cmp) (map text_below files)
 
--- Files of a package stand below its folder, in order, none is above another, and each has a path in the registry.
+-- Files of a package stand below its folder, in order, none is above another, each has a path in the registry, and no part
+-- of a path has a line feed.
 pub record AreSoundFiles (folder : Path) (files : List Path) : Type 0 where
   pub rising : AreRising files
   pub each : (f : Path) → Contains files f → IsSoundFile f
   pub apart : (s f : Path) → Contains files f → Contains files (s ++ f) → s ≡ []
   pub short : (f : Path) → Contains files f → length (path_text (f ++ folder)) ≤ PATH_LIMIT
+  pub lines : (f : Path) → Contains files f → holds_line_feed f ≡ false
 
 -- The files of the package of this id can be taken.
 abbrev pub HasPassed : Option Tree → Id → Type 0

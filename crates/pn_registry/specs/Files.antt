@@ -43,6 +43,10 @@ pub record IsClean (f : File) : Type 0 where
 abbrev pub IsShortBelow : Path → File → Type 0
 IsShortBelow at f = length (path_text (f.0 ++ at)) ≤ PATH_LIMIT
 
+-- no part of the file's path has a line feed
+abbrev pub IsOneLine : File → Type 0
+IsOneLine f = holds_line_feed f.0 ≡ false
+
 -- The second list has only files of the first one, and one for each of their paths' texts.
 pub record KeepsPaths (files list : List File) : Type 0 where
   pub from : (f : File) → Contains list f → Contains files f

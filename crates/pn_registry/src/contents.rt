@@ -7,7 +7,7 @@ ghost use Rattle.pn_fs.specs.Seen.{Keeps, GaveAtMost};
 ghost use Rattle.pn_registry.specs.Turns.{GaveListings};
 ghost use Rattle.pn_text.specs.declared.limits.TheConstants.{ENTRY_LIMIT};
 ghost use Rattle.pn_registry.specs.Places.{package_folder};
-ghost use Rattle.pn_registry.specs.Files.{IsFilesOf, IsClean, IsShortBelow};
+ghost use Rattle.pn_registry.specs.Files.{IsFilesOf, IsClean, IsShortBelow, IsOneLine};
 ghost use Rattle.pn_registry.specs.Apart.{AreApart};
 ghost use Rattle.pn_registry.specs.Below.{HasFew};
 ghost use Rattle.pn_registry.specs.Listed.{file_of};
@@ -48,6 +48,7 @@ pub fn files<R: ReadFs>(alloc: Global, registry: &mut R, id: &PkgId) -> Result<F
     ensures clean { IfOk result (All IsClean) }
     ensures apart { IfOk result AreApart }
     ensures short { IfOk result (All (IsShortBelow (package_folder id.now))) }
+    ensures lines { IfOk result (All IsOneLine) }
     ensures named { IfErr result (NamesShort (package_folder id.now)) }
     ensures gave_few { IfSome (R.seen registry.old).tree (λ t. OnOk result (GaveAtMost (R.seen registry.old) 0 ENTRY_LIMIT (R.seen registry.new))) }
     ensures gave { IfSome (R.seen registry.old).tree (λ t. GaveListings t (package_folder id.now) ENTRY_LIMIT (R.seen registry.old) (R.seen registry.new)) }
@@ -69,6 +70,7 @@ fn files_at<R: ReadFs>(alloc: Global, registry: &mut R, at: &AbsPath) -> Result<
     ensures clean { IfOk result (All IsClean) }
     ensures apart { IfOk result AreApart }
     ensures short { IfOk result (All (IsShortBelow at.now)) }
+    ensures lines { IfOk result (All IsOneLine) }
     ensures named { IfErr result (NamesShort at.now) }
     ensures gave_few { IfSome (R.seen registry.old).tree (λ t. OnOk result (GaveAtMost (R.seen registry.old) 0 ENTRY_LIMIT (R.seen registry.new))) }
     ensures gave { IfSome (R.seen registry.old).tree (λ t. GaveListings t at.now ENTRY_LIMIT (R.seen registry.old) (R.seen registry.new)) }
@@ -91,6 +93,7 @@ fn all_files<R: ReadFs>(alloc: Global, registry: &mut R, at: &AbsPath) -> Result
     ensures few { IfSome (R.seen registry.old).tree (λ t. OnOk result (HasFew t at.now entry_limit)) }
     ensures apart { IfOk result AreApart }
     ensures short { IfOk result (All (IsShortBelow at.now)) }
+    ensures lines { IfOk result (All IsOneLine) }
     ensures gave_few { IfSome (R.seen registry.old).tree (λ t. OnOk result (GaveAtMost (R.seen registry.old) 0 ENTRY_LIMIT (R.seen registry.new))) }
     ensures gave { IfSome (R.seen registry.old).tree (λ t. GaveListings t at.now ENTRY_LIMIT (R.seen registry.old) (R.seen registry.new)) }
     ensures kept { Keeps (R.seen registry.old) (R.seen registry.new) }

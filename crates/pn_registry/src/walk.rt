@@ -9,7 +9,7 @@ ghost use Rattle.pn_fs.specs.Seen.{Keeps, GaveNothing, GaveNames, GaveAtMost};
 ghost use Rattle.pn_fs.specs.Calls.{IsListing, IsEntryName};
 ghost use Rattle.pn_registry.specs.Files.{IsFilesOf, holds_line_feed};
 ghost use Rattle.pn_registry.specs.Below.{IsWithin, AllWithin, HasFew};
-ghost use Rattle.pn_registry.specs.Listed.{file_of, placed, IsShortFile};
+ghost use Rattle.pn_registry.specs.Listed.{file_of, placed, IsFitFile};
 ghost use Rattle.pn_registry.specs.Turns.{path_from, Takes, TakesAll, Lists, ListRefused, CallRefused, WalkRefused, GaveListings};
 
 use crate::list::PackageFile;
@@ -42,7 +42,7 @@ pub fn walk<R: ReadFs>(
     requires small { limit < 2 ^ 40 }
     ensures files { IfSome (R.seen registry.old).tree (λ t. IfOk result (λ v. IsFilesOf t at.now (map file_of v.items))) }
     ensures few { IfSome (R.seen registry.old).tree (λ t. OnOk result (HasFew t at.now limit)) }
-    ensures short { IfOk result (λ v. All (IsShortFile at.now) v.items) }
+    ensures fit { IfOk result (λ v. All (IsFitFile at.now) v.items) }
     ensures gave_few { IfSome (R.seen registry.old).tree (λ t. OnOk result (GaveAtMost (R.seen registry.old) 0 limit (R.seen registry.new))) }
     ensures gave { IfSome (R.seen registry.old).tree (λ t. GaveListings t at.now limit (R.seen registry.old) (R.seen registry.new)) }
     ensures kept { Keeps (R.seen registry.old) (R.seen registry.new) }
@@ -77,12 +77,12 @@ fn list_folder<R: ReadFs>(
     requires deep { at.now ≢ [] }
     requires within { IsWithin at.now parent.now }
     requires all_within { AllWithin at.now todo.old.items }
-    requires short { All (IsShortFile at.now) found.old.items }
+    requires fit { All (IsFitFile at.now) found.old.items }
     ensures lists { IfSome (R.seen registry.old).tree (λ t. IfOk result (λ n. Lists t at.now parent.now n todo.old.items todo.new.items (map (placed at.now) found.old.items) (map (placed at.now) found.new.items))) }
     ensures room { IfOk result (λ n. n ≤ room) }
     ensures grows { IfOk result (λ n. vec_len todo.new ≤ vec_len todo.old + n) }
     ensures all_within { OnOk result (AllWithin at.now todo.new.items) }
-    ensures short { OnOk result (All (IsShortFile at.now) found.new.items) }
+    ensures fit { OnOk result (All (IsFitFile at.now) found.new.items) }
     ensures gave_names { IfSome (R.seen registry.old).tree (λ t. IfOk result (λ n. GaveAtMost (R.seen registry.old) 0 n (R.seen registry.new))) }
     ensures gave { IfSome (R.seen registry.old).tree (λ t. GaveListings t at.now 0 (R.seen registry.old) (R.seen registry.new)) }
     ensures kept { Keeps (R.seen registry.old) (R.seen registry.new) }
@@ -126,11 +126,11 @@ fn take_all<R: ReadFs>(
     requires deep { at.now ≢ [] }
     requires within { IsWithin at.now parent.now }
     requires all_within { AllWithin at.now todo.old.items }
-    requires short { All (IsShortFile at.now) found.old.items }
+    requires fit { All (IsFitFile at.now) found.old.items }
     ensures takes { IfSome (R.seen registry.old).tree (λ t. OnOk result (TakesAll t at.now parent.now names.now todo.old.items todo.new.items (map (placed at.now) found.old.items) (map (placed at.now) found.new.items))) }
     ensures grows { OnOk result (vec_len todo.new ≤ vec_len todo.old + length names.now) }
     ensures all_within { OnOk result (AllWithin at.now todo.new.items) }
-    ensures short { OnOk result (All (IsShortFile at.now) found.new.items) }
+    ensures fit { OnOk result (All (IsFitFile at.now) found.new.items) }
     ensures gave { IfSome (R.seen registry.old).tree (λ t. GaveAtMost (R.seen registry.old) 0 0 (R.seen registry.new)) }
     ensures kept { Keeps (R.seen registry.old) (R.seen registry.new) }
     ensures fault { IfErr result (CallRefused (R.seen registry.old) (R.seen registry.new)) }
@@ -155,11 +155,11 @@ fn take<R: ReadFs>(
     requires deep { at.now ≢ [] }
     requires within { IsWithin at.now parent.now }
     requires all_within { AllWithin at.now todo.old.items }
-    requires short { All (IsShortFile at.now) found.old.items }
+    requires fit { All (IsFitFile at.now) found.old.items }
     ensures takes { IfSome (R.seen registry.old).tree (λ t. OnOk result (Takes t at.now parent.now name.now todo.old.items todo.new.items (map (placed at.now) found.old.items) (map (placed at.now) found.new.items))) }
     ensures grows { OnOk result (vec_len todo.new ≤ vec_len todo.old + 1) }
     ensures all_within { OnOk result (AllWithin at.now todo.new.items) }
-    ensures short { OnOk result (All (IsShortFile at.now) found.new.items) }
+    ensures fit { OnOk result (All (IsFitFile at.now) found.new.items) }
     ensures gave { IfSome (R.seen registry.old).tree (λ t. GaveNothing (R.seen registry.old) (R.seen registry.new)) }
     ensures kept { Keeps (R.seen registry.old) (R.seen registry.new) }
     ensures fault { IfErr result (CallRefused (R.seen registry.old) (R.seen registry.new)) }
@@ -205,9 +205,9 @@ fn push_file(
     requires deep { at.now ≢ [] }
     requires within { IsWithin at.now path.now }
     requires below { path.now ≢ at.now }
-    requires short { All (IsShortFile at.now) found.old.items }
+    requires fit { All (IsFitFile at.now) found.old.items }
     ensures items { OnOk result (map (placed at.now) found.new.items ≡ map (placed at.now) found.old.items ++ (if holds_line_feed (path_from at.now path.now) then [] else (path.now, length) ∷ [])) }
-    ensures short { OnOk result (All (IsShortFile at.now) found.new.items) }
+    ensures fit { OnOk result (All (IsFitFile at.now) found.new.items) }
     ensures memory { IfErr result (λ e. e ≡ WalkFault.Memory) }
 {
     let path = below(alloc, at, path)?;

@@ -4,7 +4,7 @@ use Rattle.pn_registry.specs.Listed.{file_of}
 use Rattle.pn_text.proofs.Results.{for_some, if_some}
 use Rattle.pn_registry.proofs.Orders.{kept_files}
 use Rattle.pn_registry.proofs.Keeping.{kept_apart}
-use Rattle.pn_registry.proofs.ShortFiles.{short_kept}
+use Rattle.pn_registry.proofs.ShortFiles.{short_kept, lines_kept}
 use Rattle.pn_registry.proofs.contents.all_files.Goals as goal
 
 pub returns-in-Ok-in_order_apart-clause-files : goal.returns-in-Ok-in_order_apart-clause-files
@@ -21,4 +21,9 @@ returns-in-Ok-in_order_apart-clause-files g c =
 pub returns-in-Ok-in_order_apart-clause-short : goal.returns-in-Ok-in_order_apart-clause-short
 returns-in-Ok-in_order_apart-clause-short g c =
     let listed = c.in-Ok-in_order_apart.ensures in
-    short_kept c.args.at.now c.in-Ok.found.items listed.0 c.in-Ok-in_order_apart.files listed.1 listed.2 c.in-Ok.ensures.short
+    short_kept c.args.at.now c.in-Ok.found.items listed.0 c.in-Ok-in_order_apart.files listed.1 listed.2 c.in-Ok.ensures.fit
+
+pub returns-in-Ok-in_order_apart-clause-lines : goal.returns-in-Ok-in_order_apart-clause-lines
+returns-in-Ok-in_order_apart-clause-lines g c =
+    let listed = c.in-Ok-in_order_apart.ensures in
+    lines_kept c.args.at.now c.in-Ok.found.items listed.0 c.in-Ok-in_order_apart.files listed.1 listed.2 c.in-Ok.ensures.fit

@@ -6,7 +6,7 @@ use Rattle.pn_fs.specs.Seen.{GaveAtMost}
 use Rattle.pn_registry.proofs.GivenLemmas.{most_same, most_on}
 use Rattle.pn_registry.specs.Below.{AllWithin, HasFew}
 use Rattle.pn_registry.specs.Files.{IsFilesOf}
-use Rattle.pn_registry.specs.Listed.{file_of, placed, IsShortFile}
+use Rattle.pn_registry.specs.Listed.{file_of, placed, IsFitFile}
 use Rattle.pn_registry.specs.Turns.{Lists}
 use Rattle.pn_text.proofs.Results.{for_some, if_some}
 use Rattle.pn_registry.proofs.Walks.{Walks, at_first, turned, files_found, few_seen}
@@ -22,7 +22,7 @@ folders-init g c =
       gave = most_same (g.R.ReadFs.seen c.args.registry.now) 0 0;
       within = omega arith;
       all_within = subst (AllWithin c.args.at.now) (sym todo) (within_itself c.args.at.now, tt);
-      short = subst (All (IsShortFile c.args.at.now)) (sym c.new-found.ensures.items) (All-nil (IsShortFile c.args.at.now));
+      fit = subst (All (IsFitFile c.args.at.now)) (sym c.new-found.ensures.items) (All-nil (IsFitFile c.args.at.now));
       walks = λ t told. subst (λ d. Walks t c.args.at.now d (map (placed c.args.at.now) c.new-found.result.items) 0) (sym todo)
           (subst (λ f. Walks t c.args.at.now (c.args.at.now ∷ []) (map (placed c.args.at.now) f) 0) (sym c.new-found.ensures.items) (at_first t c.args.at.now (c.requires.folder t told)));
     }
@@ -47,7 +47,7 @@ folders-preserved g c =
           (for_some (λ t. GaveAtMost (g.R.ReadFs.seen c.folders.registry) 0 c.in-Ok.count (g.R.ReadFs.seen c.list_folder.new.registry)) _ c.in-Ok.ensures.gave_names t (inv.kept.tree ∙ told)) (omega arith) (omega arith);
       within = omega (arith, inv.within, c.in-Ok.ensures.room);
       all_within = c.in-Ok.ensures.all_within;
-      short = c.in-Ok.ensures.short;
+      fit = c.in-Ok.ensures.fit;
       walks = λ t told.
           turned t (g.met.R.ReadFs.well_formed c.args.registry.now t told) c.args.at.now c.in-Some.folder c.folders.todo.items c.pop.new.self.items c.list_folder.new.todo.items
           (map (placed c.args.at.now) c.folders.found.items) (map (placed c.args.at.now) c.list_folder.new.found.items) c.folders.listed c.in-Ok.count _
