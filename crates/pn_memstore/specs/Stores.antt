@@ -1,5 +1,5 @@
 -- What the stores in memory show.
-use Rattle.std.specs.Prelude.{◌≡◌, [], ◌∷◌, ◌++◌, Some, Result, MatchResult}
+use Rattle.std.specs.Prelude.{◌≡◌, ℕ, [], ◌∷◌, ◌++◌, Some, Result, MatchResult}
 use Rattle.pn_text.specs.Causes.{is_listed}
 use Rattle.pn_text.specs.declared.fault.DevFault.{DevFault}
 use Rattle.pn_text.specs.declared.fault.DevFault.TheVariants.{Memory}
@@ -25,15 +25,24 @@ mem_journal s = sure_journal s.store
 abbrev pub mem_seen : MemStore → Seen
 mem_seen s = record { journal = Some (mem_journal s); me = s.store.me; faults = s.turns.faults }
 
+abbrev pub found_journal : FoundStore → Journal
+found_journal s = s.journal.items
+
 abbrev pub found_seen : FoundStore → Seen
-found_seen s = record { journal = Some s.journal.items; me = s.me; faults = 0 }
+found_seen s = record { journal = Some (found_journal s); me = s.me; faults = 0 }
 
 abbrev pub script_of : MemStore → Script
 script_of s = record { others = to_come s.schedule; fails = is_listed s.turns.fail.items; next = s.turns.calls; faults = s.turns.faults }
 
--- a call before which no other installer made a step; where memory was wanted its own step was not made
+-- a call's own step alone came, no step of another installer; where memory was wanted it was not made
+abbrev pub CameAlone : {T : Type 0} → ℕ → Journal → StoreStep → Journal → Result T DevFault → Type 0
+CameAlone me old step new result = MatchResult result (λ v. new ≡ old ++ (me, step) ∷ []) (λ e. (e ≡ Memory) × (new ≡ old))
+
 abbrev pub Alone : {T : Type 0} → SureStore → StoreStep → SureStore → Result T DevFault → Type 0
-Alone old step new result = MatchResult result (λ v. sure_journal new ≡ sure_journal old ++ (old.me, step) ∷ []) (λ e. (e ≡ Memory) × (sure_journal new ≡ sure_journal old))
+Alone old step new result = CameAlone old.me (sure_journal old) step (sure_journal new) result
+
+abbrev pub FoundAlone : {T : Type 0} → FoundStore → StoreStep → FoundStore → Result T DevFault → Type 0
+FoundAlone old step new result = CameAlone old.me (found_journal old) step (found_journal new) result
 
 -- a call of a store in memory went by its script, and its own step is this one
 abbrev pub GoesBy : {T : Type 0} → MemStore → StoreStep → MemStore → Result T DevFault → Type 0

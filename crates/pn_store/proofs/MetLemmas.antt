@@ -1,6 +1,6 @@
 -- Lemmas on what a put met at its address, and on its refusals.
-use Rattle.std.proofs.Common.{◌≡◌, ◌≢◌, ◌≤◌, inl, inr, ℕ, List, refl, sym, ◌∙◌, arith, subst, Some, None}
-use Rattle.std.specs.Prelude.{Option, IfSome}
+use Rattle.std.proofs.Common.{◌≡◌, ◌≢◌, ◌≤◌, inl, inr, ℕ, List, refl, sym, ◌∙◌, arith, subst, Some, None, Ok, Err}
+use Rattle.std.specs.Prelude.{Option, IfSome, Result, IfErr}
 use Rattle.pn_text.specs.Path.{Path}
 use Rattle.pn_fs.specs.Tree.{Tree, file}
 use Rattle.pn_fs.specs.Seen.{Seen as Source, Keeps}
@@ -20,8 +20,8 @@ use Rattle.pn_store.specs.Own.{IsPutStep, PublishedNone, PublishedAtMost}
 use Rattle.pn_store.specs.Leaves.{LeavesAll}
 use Rattle.pn_store.specs.Held.{Works}
 use Rattle.pn_store.specs.Reads.{StoodThere}
-use Rattle.pn_store.specs.Faults.{IsLong, FileRefused, PutRefused}
-use Rattle.pn_store.specs.Puts.{IsFound, IsMet, IsSource, PutAtMost, absent, same, other, long}
+use Rattle.pn_store.specs.Faults.{IsLong, FileRefused, PutRefused, StoreRefuses}
+use Rattle.pn_store.specs.Puts.{IsFound, IsMet, IsSource, PutLeft, absent, same, other, long}
 use Rattle.pn_store.proofs.MadeLemmas.{made_both, reads_put}
 use Rattle.pn_store.proofs.LeavesLemmas.{others_both, all_others}
 
@@ -85,9 +85,21 @@ works_left grew claims k a b c w left more later = record {
 }
 
 -- a refusal before anything was published
-pub put_none : (source : Option Tree) (p : Path) (k : ℕ) (old new : Seen) → PublishedNone old new → PutAtMost source p k old new
-put_none source p k old new h = inl h
+pub left_none : (source : Option Tree) (p : Path) (k : ℕ) (old new : Seen) (e : PutFault) → PublishedNone old new → PutLeft source p k old new e
+left_none source p k old new StoreFault h = inl h
+left_none source p k old new SourceFault h = h
+left_none source p k old new (TooLarge n) h = h
+left_none source p k old new (Clash at) h = h
+left_none source p k old new Memory h = inl h
+
+pub left_before : {T : Type 0} (r : Result T PutFault) (source : Option Tree) (p : Path) (k : ℕ) (old new : Seen) → PublishedNone old new → IfErr r (PutLeft source p k old new)
+left_before (Ok v) source p k old new h = tt
+left_before (Err e) source p k old new h = left_none source p k old new e h
 
 -- a refusal of the put's own publish
-pub put_some : (source : Option Tree) (p : Path) (k : ℕ) (old new : Seen) (bytes at : List ℕ) → at ≡ sha512 bytes → IsSource source p bytes → PublishedAtMost (PublishFile k 0 at) old new → PutAtMost source p k old new
-put_some source p k old new bytes at digest from h = inr (bytes, from, subst (λ d. PublishedAtMost (PublishFile k 0 d) old new) digest h)
+pub left_some : (source : Option Tree) (p : Path) (k : ℕ) (old mid new : Seen) (bytes at : List ℕ) (e : PutFault) → at ≡ sha512 bytes → IsSource source p bytes → PublishedAtMost (PublishFile k 0 at) old new → StoreRefuses mid new e → PutLeft source p k old new e
+left_some source p k old mid new bytes at StoreFault digest from h why = inr (bytes, from, subst (λ d. PublishedAtMost (PublishFile k 0 d) old new) digest h)
+left_some source p k old mid new bytes at SourceFault digest from h why = absurd why
+left_some source p k old mid new bytes at (TooLarge n) digest from h why = absurd why
+left_some source p k old mid new bytes at (Clash d) digest from h why = absurd why
+left_some source p k old mid new bytes at Memory digest from h why = inr (bytes, from, subst (λ d. PublishedAtMost (PublishFile k 0 d) old new) digest h)

@@ -15,6 +15,8 @@ use Rattle.pn_store.specs.Reads.{StoodThere}
 use Rattle.pn_store.specs.declared.compare.Met.{Met}
 use Rattle.pn_store.specs.declared.compare.Met.TheVariants as met
 use Rattle.pn_store.specs.declared.files.Put.{Put}
+use Rattle.pn_store.specs.declared.fault.PutFault.{PutFault}
+use Rattle.pn_store.specs.declared.fault.PutFault.TheVariants.{StoreFault, Memory}
 
 -- the source has these bytes at the path, where it is told
 abbrev pub IsSource : Option Tree → Path → List ℕ → Type 0
@@ -56,6 +58,12 @@ pub record IsPut (source : Option Tree) (p : Path) (old new : Seen) (put : Put) 
 -- Nothing was published, or at most the source's bytes, at the address that they have.
 abbrev pub PutAtMost : Option Tree → Path → ℕ → Seen → Seen → Type 0
 PutAtMost source p k old new = PublishedNone old new ⊎ ((bytes : List ℕ) × IsSource source p bytes × PublishedAtMost (PublishFile k 0 (sha512 bytes)) old new)
+
+-- what a refused put published: nothing, but where a call of the store failed or memory was wanted
+abbrev pub PutLeft : Option Tree → Path → ℕ → Seen → Seen → PutFault → Type 0
+PutLeft source p k old new StoreFault = PutAtMost source p k old new
+PutLeft source p k old new Memory = PutAtMost source p k old new
+PutLeft source p k old new e = PublishedNone old new
 
 -- The file of a held folder has the source's bytes, and the put tells their digest and length.
 pub record IsFilled (source : Option Tree) (p : Path) (k : ℕ) (s : Seen) (put : Put) : Type 0 where

@@ -1,5 +1,5 @@
 // A file of a tree, put into the store.
-ghost use Rattle.std.specs.Prelude.{◌≡◌, ◌≤◌, ◌<◌, ℕ, List, [], ◌++◌, OnOk, OnErr, IfOk, IfErr, length, take};
+ghost use Rattle.std.specs.Prelude.{◌≡◌, ◌≤◌, ◌<◌, ℕ, List, [], ◌++◌, OnOk, IfOk, IfErr, length, take};
 ghost use Rattle.std.specs.Option.{ForSome};
 ghost use Rattle.sha2.specs.Sha512.{sha512};
 ghost use Rattle.pn_fs.specs.Tree.{IsFile};
@@ -13,7 +13,7 @@ ghost use Rattle.pn_storecore.specs.Seen.{Seen as Stored};
 ghost use Rattle.pn_store.specs.Held.{HoldsFile, IsHeld, Works};
 ghost use Rattle.pn_store.specs.Faults.{FileRefused, PutRefused, StoreRefuses};
 ghost use Rattle.pn_store.specs.Own.{PublishedNone, PublishedOne, PublishedAtMost};
-ghost use Rattle.pn_store.specs.Puts.{IsPut, IsFilled, IsShortFile, PutAtMost};
+ghost use Rattle.pn_store.specs.Puts.{IsPut, IsFilled, IsShortFile, PutLeft};
 
 use crate::calls::{append, first_of, publish_file, shard, start};
 use crate::compare::{meet, source_piece};
@@ -47,7 +47,7 @@ pub fn put_file<D: StoreDisk, R: ReadFs>(
     requires file { ForSome (R.seen from.old).tree (λ r. IsFile r path.now) }
     ensures put { IfOk result (IsPut (R.seen from.old).tree path.now (D.seen disk.old) (D.seen disk.new)) }
     ensures published { IfOk result (λ put. PublishedOne (step.PublishFile claim.old 0 put.digest) (D.seen disk.old) (D.seen disk.new)) }
-    ensures refused { OnErr result (PutAtMost (R.seen from.old).tree path.now claim.old (D.seen disk.old) (D.seen disk.new)) }
+    ensures refused { IfErr result (PutLeft (R.seen from.old).tree path.now claim.old (D.seen disk.old) (D.seen disk.new)) }
     ensures empty { OnOk result (HoldsFile (D.seen disk.new) claim.old None) }
     ensures claim { claim.new ≡ claim.old }
     ensures works { Works claim.old (D.seen disk.old) (D.seen disk.new) }
@@ -79,7 +79,7 @@ fn put_short<D: StoreDisk, R: ReadFs>(
     requires room { (0 < length buffer.old) × (0 < length other.old) }
     ensures put { IfOk result (IsPut (R.seen from.old).tree path.now (D.seen disk.old) (D.seen disk.new)) }
     ensures published { IfOk result (λ put. PublishedOne (step.PublishFile k 0 put.digest) (D.seen disk.old) (D.seen disk.new)) }
-    ensures refused { OnErr result (PutAtMost (R.seen from.old).tree path.now k (D.seen disk.old) (D.seen disk.new)) }
+    ensures refused { IfErr result (PutLeft (R.seen from.old).tree path.now k (D.seen disk.old) (D.seen disk.new)) }
     ensures empty { OnOk result (HoldsFile (D.seen disk.new) k None) }
     ensures works { Works k (D.seen disk.old) (D.seen disk.new) }
     ensures source { Keeps (R.seen from.old) (R.seen from.new) }

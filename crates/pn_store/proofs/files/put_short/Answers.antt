@@ -1,18 +1,17 @@
 use Rattle.std.proofs.Common.{Some, sym}
 use Rattle.std.proofs.lemmas.Result.{err_from_is_err_and}
-use Rattle.pn_text.proofs.Results.{any_err}
 use Rattle.pn_storecore.specs.declared.step.Place.TheVariants.{Files}
 use Rattle.pn_storecore.specs.declared.step.StoreStep.TheVariants.{PublishFile}
 use Rattle.pn_storecore.specs.Held.{files_with, no_files}
 use Rattle.pn_store.proofs.HeldLemmas.{works_twice}
 use Rattle.pn_store.proofs.MadeLemmas.{none_both, none_one, none_at_most, reads_publish}
-use Rattle.pn_store.proofs.MetLemmas.{met_between, refused_behind, works_left, put_none, put_some}
+use Rattle.pn_store.proofs.MetLemmas.{met_between, refused_behind, works_left, left_before, left_some}
 use Rattle.pn_store.proofs.files.put_short.Goals as goal
 
 pub returns-in_err-start-clause-refused : goal.returns-in_err-start-clause-refused
 returns-in_err-start-clause-refused g c =
     let store = g.D.StoreDisk.seen in
-    any_err c.from_residual.result (put_none (g.R.ReadFs.seen c.args.from.now).tree c.args.path.now c.args.k (store c.args.disk.now) (store c.start.new.disk) c.start.ensures.unpublished)
+    left_before c.from_residual.result (g.R.ReadFs.seen c.args.from.now).tree c.args.path.now c.args.k (store c.args.disk.now) (store c.start.new.disk) c.start.ensures.unpublished
 
 pub returns-in_err-put-clause-refused : goal.returns-in_err-put-clause-refused
 returns-in_err-put-clause-refused g c =
@@ -20,7 +19,7 @@ returns-in_err-put-clause-refused g c =
     let old = store c.args.disk.now in
     let one = store c.start.new.disk in
     let two = store c.fill.new.disk in
-    any_err c.from_residual-in_err-put.result (put_none (g.R.ReadFs.seen c.args.from.now).tree c.args.path.now c.args.k old two (none_both old one two c.start.ensures.unpublished c.fill.ensures.unpublished))
+    left_before c.from_residual-in_err-put.result (g.R.ReadFs.seen c.args.from.now).tree c.args.path.now c.args.k old two (none_both old one two c.start.ensures.unpublished c.fill.ensures.unpublished)
 
 pub returns-in_err-put-clause-works : goal.returns-in_err-put-clause-works
 returns-in_err-put-clause-works g c =
@@ -34,8 +33,8 @@ returns-in_err-meet-clause-refused g c =
     let one = store c.start.new.disk in
     let two = store c.fill.new.disk in
     let three = store c.meet.new.disk in
-    any_err c.from_residual-in_err-meet.result (put_none (g.R.ReadFs.seen c.args.from.now).tree c.args.path.now c.args.k old three
-    (none_both old two three (none_both old one two c.start.ensures.unpublished c.fill.ensures.unpublished) (reads_publish two three c.meet.ensures.left.own)))
+    left_before c.from_residual-in_err-meet.result (g.R.ReadFs.seen c.args.from.now).tree c.args.path.now c.args.k old three
+    (none_both old two three (none_both old one two c.start.ensures.unpublished c.fill.ensures.unpublished) (reads_publish two three c.meet.ensures.left.own))
 
 pub returns-in_err-meet-clause-works : goal.returns-in_err-meet-clause-works
 returns-in_err-meet-clause-works g c =
@@ -75,8 +74,9 @@ returns-in_err-move_to-clause-refused g c =
     let put = c.in_ok-put.put in
     let filled = c.in_ok-put.ensures.filled in
     let none = none_both old two three (none_both old one two c.start.ensures.unpublished c.fill.ensures.unpublished) (reads_publish two three c.meet.ensures.left.own) in
-    any_err c.from_residual-in_err-move_to.result (put_some (g.R.ReadFs.seen c.args.from.now).tree c.args.path.now k old new filled.bytes put.digest filled.digest filled.from
-    (none_at_most (PublishFile k 0 put.digest) old three new none c.move_to.ensures.at_most))
+    let p = err_from_is_err_and c.from_residual-in_err-move_to.result c.from_residual-in_err-move_to.ensures.1 in
+    rw (p.1, p.2) (left_some (g.R.ReadFs.seen c.args.from.now).tree c.args.path.now k old three new filled.bytes put.digest _ filled.digest filled.from
+    (none_at_most (PublishFile k 0 put.digest) old three new none c.move_to.ensures.at_most) c.in_err-move_to.ensures.fault)
 
 pub returns-in_err-move_to-clause-works : goal.returns-in_err-move_to-clause-works
 returns-in_err-move_to-clause-works g c =
