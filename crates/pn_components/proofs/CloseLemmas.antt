@@ -106,6 +106,15 @@ module _ (rows : List (List ℕ)) (marks : List Mark) (stack : List ℕ) (front 
     | inr new ↦ let e = new.3 in omega (arith, e)
   ]
 
+  still_used : (n : ℕ) → n < numbers + 1 → (v : ℕ) × (mark_of (map (closed_mark x.first numbers) marks) v ≡ Done n)
+  still_used n lt = elim (cases_lt n numbers) [
+    | inl low ↦ let u = h.used n low in (u.0, still_done u.0 n u.1)
+    | inr high ↦
+        let begun = (h.begun x last_part).0 in
+        let e : numbers ≡ n = omega (arith, lt, high) in
+        (get_or stack x.first 0, new_done (get_or stack x.first 0) x.first (h.stacked x.first begun) (omega arith) ∙ ap Done e)
+  ]
+
   pub closed_walk : IsWalk rows (map (closed_mark x.first numbers) marks) (take x.first stack) front waiting (numbers + 1)
   closed_walk = record {
     small = h.small;
@@ -130,6 +139,7 @@ module _ (rows : List (List ℕ)) (marks : List Mark) (stack : List ℕ) (front 
     falls = still_falls;
     joined = still_joined;
     numbered = still_numbered;
+    used = still_used;
     few = let f = h.few in omega (arith, f, length_push front x, unmet-closed x.first numbers marks);
   }
 

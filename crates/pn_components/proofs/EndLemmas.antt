@@ -9,6 +9,7 @@ use Rattle.pn_components.specs.declared.walk.Mark.TheVariants.{New, Open, Done}
 use Rattle.pn_components.specs.Graphs.{AreComponents, Edges, Leads, Reaches, itself, through}
 use Rattle.pn_components.specs.Rows.{AreRows, AreWithin, LeadsIn}
 use Rattle.pn_components.specs.Walks.{IsWalk, mark_of, number_of}
+use Rattle.pn_components.proofs.CloseSteps.{marked_within}
 use Rattle.pn_components.proofs.MarkLemmas.{mark-replicate, unmet-replicate}
 use Rattle.pn_components.proofs.Reaching.{along}
 
@@ -33,6 +34,7 @@ first_walk rows n long within small = record {
   falls = λ v w m is. absurd (no_mark n v (Done m) (λ e. cc) is);
   joined = λ v w m is. absurd (no_mark n v (Done m) (λ e. cc) is);
   numbered = λ v m is. absurd (no_mark n v (Done m) (λ e. cc) is);
+  used = λ m lt. absurd (omega arith);
   few = omega (arith, unmet-replicate n, long);
 }
 
@@ -90,10 +92,20 @@ module _ (edges : Edges) (rows : List (List ℕ)) (marks : List Mark) (stack : L
       let e : number_of m ≡ n = ap number_of (sym is ∙ d.1) in
       omega (arith, low, f, long, e)
 
+  used_at : (a n : ℕ) → a < count → n ≤ get_or (map number_of marks) a 0 → (b : ℕ) × (b < count) × (get_or (map number_of marks) b 0 ≡ n)
+  used_at a n wa le =
+      let p = done a wa in
+      let low = h.numbered a p.0 p.1 in
+      let u = h.used n (omega (arith, le, low, number_at a p.0 wa p.1)) in
+      let inside = marked_within marks u.0 (λ e. let is = u.1 in cc (is, e)) in
+      let within : u.0 < count = let c = h.count in omega (arith, inside, c, long) in
+      (u.0, within, number_at u.0 n within u.1)
+
   pub components_of : AreComponents count edges (map number_of marks)
   components_of = record {
     all = length-map marks number_of ∙ h.count ∙ long;
     few = All-map (λ (n : ℕ). n < count) number_of marks (λ k d lt. number_few (get_or marks k d) k (let c = h.count in omega (arith, lt, c, long)) (get_or_default marks k New d lt));
+    used = used_at;
     together = λ a b wa wb. (
       λ e. (to_edges a b (both_reach a b wa wb e), to_edges b a (both_reach b a wb wa (sym e))),
       λ r. let p = lower a b wa wb (to_rows a b r.0) in let q = lower b a wb wa (to_rows b a r.1) in omega (arith, p, q),

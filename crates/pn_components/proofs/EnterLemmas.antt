@@ -128,6 +128,7 @@ module _ (rows : List (List ℕ)) (marks : List Mark) (stack : List ℕ) (parts 
     falls = λ a w n is leads. let f = h.falls a w n (back a (Done n) (λ e. cc) is) leads in (f.0, kept w (Done f.0) (λ e. cc) f.1, f.2);
     joined = λ a w n p q. h.joined a w n (back a (Done n) (λ e. cc) p) (back w (Done n) (λ e. cc) q);
     numbered = λ a n is. h.numbered a n (back a (Done n) (λ e. cc) is);
+    used = λ n lt. let u = h.used n lt in (u.0, kept u.0 (Done n) (λ e. cc) u.1);
     few = let f = h.few in let c = h.count in omega (arith, f, length_push parts (new_part stack waiting), unmet-set marks v (length stack) (omega (arith, within, c)) fresh);
   }
 

@@ -66,5 +66,6 @@ module _ (rows : List (List ℕ)) (marks : List Mark) (stack : List ℕ) (front 
     falls = h.falls;
     joined = h.joined;
     numbered = h.numbered;
+    used = h.used;
     few = let f = h.few in omega (arith, f, length_push front x);
   }

@@ -55,5 +55,6 @@ module _ (rows : List (List ℕ)) (marks : List Mark) (stack : List ℕ) (parts 
     falls = h.falls;
     joined = h.joined;
     numbered = h.numbered;
+    used = h.used;
     few = h.few;
   }

@@ -14,9 +14,10 @@ pub data Reaches (Leads : ℕ → ℕ → Type 0) (from : ℕ) : ℕ → Type 0 
   itself : Reaches Leads from from
   through : (a b : ℕ) → Reaches Leads from a → Leads a b → Reaches Leads from b
 
--- These are the numbers of the strong components of so many places, targets first.
+-- These are the numbers of the strong components of that many places, targets first, and none is left out.
 pub record AreComponents (count : ℕ) (edges : Edges) (numbers : List ℕ) : Type 0 where
   pub all : length numbers ≡ count
   pub few : All (λ n. n < count) numbers
+  pub used : (a n : ℕ) → a < count → n ≤ get_or numbers a 0 → (b : ℕ) × (b < count) × (get_or numbers b 0 ≡ n)
   pub together : (a b : ℕ) → a < count → b < count → (get_or numbers a 0 ≡ get_or numbers b 0) ↔ (Reaches (Leads edges) a b × Reaches (Leads edges) b a)
   pub targets_first : (a b : ℕ) → Leads edges a b → get_or numbers b 0 ≤ get_or numbers a 0

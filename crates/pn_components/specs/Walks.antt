@@ -91,4 +91,5 @@ pub record IsWalk (rows : List (List ℕ)) (marks : List Mark) (stack : List ℕ
   pub falls : (v w n : ℕ) → mark_of marks v ≡ Done n → LeadsIn rows v w → (m : ℕ) × (mark_of marks w ≡ Done m) × (m ≤ n)
   pub joined : (v w n : ℕ) → mark_of marks v ≡ Done n → mark_of marks w ≡ Done n → Reaches (LeadsIn rows) v w
   pub numbered : (v n : ℕ) → mark_of marks v ≡ Done n → n < numbers
+  pub used : (n : ℕ) → n < numbers → (v : ℕ) × (mark_of marks v ≡ Done n)
   pub few : numbers + length parts + unmet marks ≤ length rows

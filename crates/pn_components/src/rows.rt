@@ -6,9 +6,9 @@ ghost use Rattle.pn_components.specs.Rows.{AreRows, rows_of, Adds};
 use pn_text::Memory;
 use std::alloc::Global;
 
-/// The targets of each of that many places.
-pub(crate) fn rows(alloc: Global, count: u32, edges: &[(u32, u32)]) -> Result<Vec<Vec<u32>>, Memory>
-    requires { All (λ e. (e.0 < count) × (e.1 < count)) edges.now }
+/// The targets of each of that many places, by edges that begin at them.
+pub fn targets(alloc: Global, count: u32, edges: &[(u32, u32)]) -> Result<Vec<Vec<u32>>, Memory>
+    requires { All (λ e. e.0 < count) edges.now }
     ensures count { IfOk result (λ rows. length rows.items ≡ count) }
     ensures rows { IfOk result (λ rows. AreRows edges.now (rows_of rows.items)) }
 {

@@ -4,7 +4,7 @@ ghost use Rattle.std.specs.List.{All};
 ghost use Rattle.pn_components.specs.Graphs.{AreComponents, Edges};
 ghost use Rattle.pn_components.specs.Walks.{number_of};
 
-use crate::rows::rows;
+use crate::rows::targets;
 use crate::walk::{Mark, Walk};
 use pn_text::Memory;
 use std::alloc::Global;
@@ -15,7 +15,7 @@ pub fn components(alloc: Global, count: u32, edges: &[(u32, u32)]) -> Result<Vec
     requires { All (λ e. (e.0 < count) × (e.1 < count)) edges.now }
     ensures { IfOk result (λ numbers. AreComponents count edges.now numbers.items) }
 {
-    let rows = rows(alloc, count, edges)?;
+    let rows = targets(alloc, count, edges)?;
     let mut walk = Walk::new(alloc, rows)?;
     for root in 0..count {
         walk.visit(root)?;

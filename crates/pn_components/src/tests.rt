@@ -1,5 +1,5 @@
 // Components of small graphs.
-use crate::components;
+use crate::{components, targets};
 use std::test::Fail;
 
 #[test]
@@ -26,5 +26,16 @@ fn without_edges_each_place_is_alone(rt: HostRuntime) -> Result<(), Fail> {
     let alloc = rt.alloc();
     assert!(rt; components(alloc, 0, &[])?.is_empty());
     assert!(rt; components(alloc, 2, &[])?.as_slice() == [0, 1].as_slice());
+    Ok(())
+}
+
+#[test]
+fn targets_stand_at_the_places_that_edges_begin_at(rt: HostRuntime) -> Result<(), Fail> {
+    let alloc = rt.alloc();
+    let rows = targets(alloc, 3, &[(2, 0), (0, 7), (2, 1)])?;
+    assert!(rt; rows.len() == 3);
+    assert!(rt; rows[0].as_slice() == [7].as_slice());
+    assert!(rt; rows[1].is_empty());
+    assert!(rt; rows[2].as_slice() == [0, 1].as_slice());
     Ok(())
 }

@@ -17,6 +17,7 @@ use Rattle.std.proofs.lemmas.Map.Lookups.{exact_bytes}
 use Rattle.std.proofs.lemmas.Map.Views.{exact_unsigned_eq}
 use Rattle.std.proofs.Math.Nat.{mul-le-mul_left, suc-mul}
 use Rattle.std.proofs.lemmas.Slice.Eq.{bytes_eq-Decides}
+use Rattle.pn_text.proofs.Orders.{is_less}
 use Rattle.pn_deppath.specs.Folders.{with_ordinal, is_taken, free_from, ordinal, numbered, is_earlier, count_of, earlier, folder_by, FolderLaw}
 
 pub same : (x y : List ℕ) → bytes_eq x y ≡ true → x ≡ y
@@ -247,11 +248,6 @@ not_earlier named p = ap (λ o. is_lt o && bytes_eq (named p) (named p)) (tied_i
 
 fits_in : (named : List ℕ → List ℕ) (xs : List (List ℕ)) (p : List ℕ) → In xs p → earlier named xs p < length xs
 fits_in named xs p h = subst (λ n. earlier named xs p < n) (count_all xs) (count_lt (is_earlier named p) (λ x. true) (λ x e. refl) xs p h (not_earlier named p) refl)
-
-is_less : (o : Ordering) → is_lt o ≡ true → o ≡ Less
-is_less Less h = refl
-is_less Equal h = absurd (cc h)
-is_less Greater h = absurd (cc h)
 
 both : (a b : Bool) → (a && b) ≡ true → (a ≡ true) × (b ≡ true)
 both true true h = (refl, refl)

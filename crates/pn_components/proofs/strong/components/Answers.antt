@@ -9,6 +9,9 @@ use Rattle.pn_components.specs.Walks.{IsWalk, number_of}
 use Rattle.pn_components.proofs.EndLemmas.{components_of}
 use Rattle.pn_components.proofs.strong.components.Goals as goal
 
+pub targets-requires : goal.targets-requires
+targets-requires c = λ k d lt. (c.requires k d lt).0
+
 pub new-requires-clause-within : goal.new-requires-clause-within
 new-requires-clause-within c = λ a b leads.
     let edge = All-contains (λ (e : ℕ × ℕ). (e.0 < c.args.count) × (e.1 < c.args.count)) c.args.edges.now (a, b) c.requires (c.in_ok-rows.ensures.rows.leads a b leads) in

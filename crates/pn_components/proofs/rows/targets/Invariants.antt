@@ -1,6 +1,6 @@
 use Rattle.std.proofs.Common.{◌≡◌, length, take}
 use Rattle.pn_components.specs.Rows.{AreRows, rows_of}
-use Rattle.pn_components.proofs.rows.rows.Given as goal
+use Rattle.pn_components.proofs.rows.targets.Given as goal
 
 abbrev pub invariant-loop-edge : goal.invariant-loop-edge
 invariant-loop-edge l = record {
