@@ -1,8 +1,12 @@
 -- Where a wish leads by its specifier, and why it leads nowhere.
-use Rattle.std.proofs.Common.{◌≡◌, ℕ, Bool, false, List, Option, Some, None, refl, sym, ap, ◌∙◌, subst}
-use Rattle.std.specs.Prelude.{option_map}
+use Rattle.std.proofs.Common.{◌≡◌, ℕ, Bool, false, List, [], Option, Some, None, refl, sym, ap, ◌∙◌, subst}
+use Rattle.std.specs.Prelude.{String, option_map}
+use Rattle.std.specs.BTreeMap.{BTreeMap}
 use Rattle.semver.specs.Parse.{Parts}
+use Rattle.pn_fs.specs.Seen.{Seen}
 use Rattle.pn_fs.specs.Tree.{Tree}
+use Rattle.pn_spec.proofs.OneReading.{readings}
+use Rattle.pn_spec.specs.declared.spec.Spec.{Spec}
 use Rattle.pn_spec.specs.declared.want.Want.{Want}
 use Rattle.pn_walk.specs.Wants.{Id}
 use Rattle.pn_walk.specs.declared.wish.Aim.TheVariants.{Package as to_package}
@@ -12,7 +16,8 @@ use Rattle.pn_published.specs.declared.published.Published.{Published}
 use Rattle.pn_plain.specs.Aims.{Chooses, Found, LeadsBy as LeadsGiven, id_at}
 use Rattle.pn_plain.specs.Causes.{no_version}
 use Rattle.pn_plain.specs.Given.{held_of, version_of}
-use Rattle.pn_plain.specs.Readings.{of_package, not_built}
+use Rattle.pn_plain.specs.Readings.{of_package, not_built, built, reading}
+use Rattle.pn_choice.specs.Cached.{AsksOnce}
 use Rattle.pn_choice.specs.Given.{given_of, held_by}
 use Rattle.pn_choice.specs.Shows.{Publishes}
 use Rattle.pn_choice.specs.Ways.{LeadsBy, ReadsAs, IsUnasked, IsLost, no_form, no_aim, Loses, IsUnlisted, IsVersionIn}
@@ -58,3 +63,16 @@ version_in r held n v p id shows is = record {
   chooses = record { shelf = shelf_of p; shows = shows; is = refl };
   is = is;
 }
+
+-- A specifier asks for one name.
+pub same_name : (w : Wish) (n m : List ℕ) (v u : Want) → ReadsAs w (of_package n v) → ReadsAs w (of_package m u) → n ≡ m
+same_name w n m v u h k =
+    let g = given_of [] in
+    let a = h [] in
+    let b = k [] in
+    let same : of_package n v ≡ of_package m u = a.is ∙ ap (λ (x : Spec). built g.spaces (reading g.catalogs w.alias x)) (readings.one w.specifier a.spec b.spec a.says b.says) ∙ sym b.is in
+    cc
+
+pub asks_once : {A : Type 0} (w : Wish) (m : List ℕ) (u : Want) (shelves : BTreeMap (String A) Published) (old new : Seen) → ReadsAs w (of_package m u) → AsksOnce shelves m old new
+    → (n : List ℕ) (v : Want) → ReadsAs w (of_package n v) → AsksOnce shelves n old new
+asks_once w m u shelves old new reads once n v other = subst (λ (x : List ℕ). AsksOnce shelves x old new) (same_name w m n u v reads other) once

@@ -4,7 +4,7 @@ ghost use Rattle.std.specs.BTreeMap.{get_by_text};
 ghost use Rattle.pn_fs.specs.Seen.{Keeps};
 ghost use Rattle.pn_fs.specs.Tree.{Tree};
 ghost use Rattle.pn_published.specs.Shown.{shelf_of};
-ghost use Rattle.pn_choice.specs.Cached.{AreShown};
+ghost use Rattle.pn_choice.specs.Cached.{AreShown, KeepsShelves};
 ghost use Rattle.pn_choice.specs.Shows.{Publishes};
 ghost use Rattle.pn_choice.specs.Ways.{IsUnlisted, Broke};
 
@@ -53,6 +53,7 @@ pub fn keep(
     shelf: Published,
 ) -> Result<(), Memory>
     ensures shown { (r : Option Tree) → AreShown r shelves.old → Publishes r name.now (shelf_of shelf) → AreShown r shelves.new }
+    ensures known { KeepsShelves shelves.old shelves.new }
     ensures listed { OnOk result (IsSome (get_by_text shelves.new name.now)) }
 {
     let key = String::from_str(alloc, name.as_str())?;

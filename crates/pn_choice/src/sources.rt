@@ -1,9 +1,11 @@
 // What a plain graph is made from.
-ghost use Rattle.std.specs.Prelude.{◌≡◌, IfOk, OnOk, IfErr, IsSome, Option, option_map};
+ghost use Rattle.std.specs.Prelude.{◌≡◌, ℕ, List, IfOk, OnOk, IfErr, IsSome, Option, option_map};
 ghost use Rattle.pn_fs.specs.Tree.{Tree};
 ghost use Rattle.std.specs.BTreeMap.{get_by_text};
-ghost use Rattle.pn_choice.specs.Cached.{AreShown};
-ghost use Rattle.pn_choice.specs.Ways.{Goes, IsUnlisted, Broke, IsVersionIn, LeadsBy, IsLost, Loses};
+ghost use Rattle.pn_spec.specs.declared.want.Want.{Want as TheWant};
+ghost use Rattle.pn_plain.specs.Readings.{of_package};
+ghost use Rattle.pn_choice.specs.Cached.{AreShown, KeepsShelves, AsksOnce};
+ghost use Rattle.pn_choice.specs.Ways.{Goes, IsUnlisted, Broke, IsVersionIn, LeadsBy, IsLost, Loses, ReadsAs};
 
 use crate::asked::{NamedWant, asked};
 use crate::shelf::{keep, shelf};
@@ -61,6 +63,8 @@ impl<'a, 'b, 'c, R: ReadFs> Sources<'a, 'b, 'c, R> {
         ensures goes { Goes (R.seen self.old.registry.now) (R.seen self.new.registry.now) self.old.held.now self.new.held.now }
         ensures same_reference { self.new.registry.ghost_name ≡ self.old.registry.ghost_name }
         ensures good { AreShown (R.seen self.new.registry.now).tree self.new.shelves.now }
+        ensures known { KeepsShelves self.old.shelves.now self.new.shelves.now }
+        ensures once { (n : List ℕ) (v : TheWant) → ReadsAs wish.now (of_package n v) → AsksOnce self.old.shelves.now n (R.seen self.old.registry.now) (R.seen self.new.registry.now) }
         ensures broke { IfErr result (Broke (R.seen self.old.registry.now) (R.seen self.new.registry.now)) }
     {
         let asked = asked(alloc, wish)?;
@@ -79,6 +83,8 @@ impl<'a, 'b, 'c, R: ReadFs> Sources<'a, 'b, 'c, R> {
         ensures goes { Goes (R.seen self.old.registry.now) (R.seen self.new.registry.now) self.old.held.now self.new.held.now }
         ensures same_reference { self.new.registry.ghost_name ≡ self.old.registry.ghost_name }
         ensures good { AreShown (R.seen self.new.registry.now).tree self.new.shelves.now }
+        ensures known { KeepsShelves self.old.shelves.now self.new.shelves.now }
+        ensures once { AsksOnce self.old.shelves.now asked.name (R.seen self.old.registry.now) (R.seen self.new.registry.now) }
         ensures broke { IfErr result (Broke (R.seen self.old.registry.now) (R.seen self.new.registry.now)) }
     {
         self.list(alloc, &asked.name)?;
@@ -96,6 +102,8 @@ impl<'a, 'b, 'c, R: ReadFs> Sources<'a, 'b, 'c, R> {
         ensures goes { Goes (R.seen self.old.registry.now) (R.seen self.new.registry.now) self.old.held.now self.new.held.now }
         ensures same_reference { self.new.registry.ghost_name ≡ self.old.registry.ghost_name }
         ensures good { AreShown (R.seen self.new.registry.now).tree self.new.shelves.now }
+        ensures known { KeepsShelves self.old.shelves.now self.new.shelves.now }
+        ensures once { AsksOnce self.old.shelves.now name.now (R.seen self.old.registry.now) (R.seen self.new.registry.now) }
         ensures broke { IfErr result (Broke (R.seen self.old.registry.now) (R.seen self.new.registry.now)) }
     {
         if self.shelves.contains_key(name.as_str()) {

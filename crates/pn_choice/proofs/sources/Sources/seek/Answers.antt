@@ -1,6 +1,6 @@
 use Rattle.std.proofs.Common.{rules}
 use Rattle.pn_choice.specs.Ways.{Loses}
-use Rattle.pn_choice.proofs.SeekLemmas.{unasked_loses, unlisted_loses, leads_to, lost_version}
+use Rattle.pn_choice.proofs.SeekLemmas.{unasked_loses, unlisted_loses, leads_to, lost_version, asks_once}
 use Rattle.pn_choice.proofs.sources.Sources.seek.Goals as goal
 
 pub returns-in_err-asked-clause-lost : goal.returns-in_err-asked-clause-lost
@@ -24,3 +24,23 @@ pub returns-in-None-2-clause-lost : goal.returns-in-None-2-clause-lost
 returns-in-None-2-clause-lost g c =
     lost_version (g.R.ReadFs.seen c.args.self.now.registry.now).tree c.args.self.now.held.now c.args.wish.now c.in_ok-asked.asked.name c.in_ok-asked.asked.want c.in_ok-id.field-0 c.requires.asks c.in_ok-asked.ensures.reads
     c.in_ok-id.ensures.version c.in-None-2.is c.if-wish.false
+
+pub returns-in_err-id-clause-once : goal.returns-in_err-id-clause-once
+returns-in_err-id-clause-once g c =
+    asks_once c.args.wish.now c.in_ok-asked.asked.name c.in_ok-asked.asked.want c.args.self.now.shelves.now (g.R.ReadFs.seen c.args.self.now.registry.now) (g.R.ReadFs.seen c.version.new.self.registry.now) c.in_ok-asked.ensures.reads
+    c.version.ensures.once
+
+pub returns-in-Some-clause-once : goal.returns-in-Some-clause-once
+returns-in-Some-clause-once g c =
+    asks_once c.args.wish.now c.in_ok-asked.asked.name c.in_ok-asked.asked.want c.args.self.now.shelves.now (g.R.ReadFs.seen c.args.self.now.registry.now) (g.R.ReadFs.seen c.version.new.self.registry.now) c.in_ok-asked.ensures.reads
+    c.version.ensures.once
+
+pub returns-in-None-clause-once : goal.returns-in-None-clause-once
+returns-in-None-clause-once g c =
+    asks_once c.args.wish.now c.in_ok-asked.asked.name c.in_ok-asked.asked.want c.args.self.now.shelves.now (g.R.ReadFs.seen c.args.self.now.registry.now) (g.R.ReadFs.seen c.version.new.self.registry.now) c.in_ok-asked.ensures.reads
+    c.version.ensures.once
+
+pub returns-in-None-2-clause-once : goal.returns-in-None-2-clause-once
+returns-in-None-2-clause-once g c =
+    asks_once c.args.wish.now c.in_ok-asked.asked.name c.in_ok-asked.asked.want c.args.self.now.shelves.now (g.R.ReadFs.seen c.args.self.now.registry.now) (g.R.ReadFs.seen c.version.new.self.registry.now) c.in_ok-asked.ensures.reads
+    c.version.ensures.once
