@@ -6,3 +6,4 @@ mod Gathered
 mod SaidLemmas
 mod NameFolders
 pub mod OneShelf
+pub mod ListsOnceLemmas

@@ -8,7 +8,7 @@ ghost use Rattle.pn_fs.specs.Seen.{Keeps, GaveNothing, GaveAtMost};
 ghost use Rattle.pn_fs.specs.Calls.{IsListing, IsEntryName};
 ghost use Rattle.pn_published.specs.Shelves.{AreVersions, HasFew};
 ghost use Rattle.pn_published.specs.Versions.{AreParsed};
-ghost use Rattle.pn_published.specs.Folders.{is_folder, version_at, versions_at};
+ghost use Rattle.pn_published.specs.Folders.{is_folder, version_at, versions_at, ListsOnce};
 ghost use Rattle.pn_published.specs.Refusals.{ListRefused, CallRefused};
 
 use crate::fault::PublishedFault;
@@ -27,7 +27,8 @@ pub fn read_versions<R: ReadFs>(
 ) -> Result<Versions, PublishedFault>
     ensures versions { IfSome (R.seen registry.old).tree (λ t. IfOk result (AreVersions t folder.now)) }
     ensures few { IfSome (R.seen registry.old).tree (λ t. OnOk result (HasFew t folder.now)) }
-    ensures gave { IfSome (R.seen registry.old).tree (λ t. OnOk result (GaveAtMost (R.seen registry.old) 0 ENTRY_LIMIT (R.seen registry.new))) }
+    ensures gave_few { IfSome (R.seen registry.old).tree (λ t. OnOk result (GaveAtMost (R.seen registry.old) 0 ENTRY_LIMIT (R.seen registry.new))) }
+    ensures gave { IfSome (R.seen registry.old).tree (λ t. ListsOnce t folder.now 0 (R.seen registry.old) (R.seen registry.new)) }
     ensures kept { Keeps (R.seen registry.old) (R.seen registry.new) }
     ensures fault { IfErr result (ListRefused folder.now (R.seen registry.old) (R.seen registry.new)) }
 {
@@ -46,7 +47,8 @@ fn names_of<R: ReadFs>(
     ensures names { IfSome (R.seen registry.old).tree (λ t. IfOk result (λ names. IsListing t folder.now names.items)) }
     ensures good { IfOk result (λ names. All (IsEntryName folder.now) names.items) }
     ensures few { IfOk result (λ names. length names.items ≤ ENTRY_LIMIT) }
-    ensures gave { IfSome (R.seen registry.old).tree (λ t. OnOk result (GaveAtMost (R.seen registry.old) 0 ENTRY_LIMIT (R.seen registry.new))) }
+    ensures gave_few { IfSome (R.seen registry.old).tree (λ t. OnOk result (GaveAtMost (R.seen registry.old) 0 ENTRY_LIMIT (R.seen registry.new))) }
+    ensures gave { IfSome (R.seen registry.old).tree (λ t. ListsOnce t folder.now 0 (R.seen registry.old) (R.seen registry.new)) }
     ensures kept { Keeps (R.seen registry.old) (R.seen registry.new) }
     ensures fault { IfErr result (ListRefused folder.now (R.seen registry.old) (R.seen registry.new)) }
 {

@@ -5,6 +5,7 @@ ghost use Rattle.pn_text.specs.Path.{path_text};
 ghost use Rattle.pn_text.specs.Name.{name_path};
 ghost use Rattle.pn_fs.specs.Seen.{Keeps, GaveAtMost};
 ghost use Rattle.pn_fs.specs.Calls.{IsEntryName};
+ghost use Rattle.pn_published.specs.Folders.{ListsOnce};
 ghost use Rattle.pn_published.specs.Shelves.{IsPublished, IsShelf};
 ghost use Rattle.pn_published.specs.Tags.{tags_name};
 ghost use Rattle.pn_published.specs.Shown.{shelf_of};
@@ -27,7 +28,8 @@ pub fn versions<R: ReadFs>(
 ) -> Result<Published, PublishedFault>
     ensures published { IfSome (R.seen registry.old).tree (λ t. IfOk result (λ p. IsPublished t name.now (shelf_of p))) }
     ensures shelf { IfOk result (λ p. IsShelf (shelf_of p)) }
-    ensures gave { IfSome (R.seen registry.old).tree (λ t. OnOk result (GaveAtMost (R.seen registry.old) (TEXT_LIMIT + 1) ENTRY_LIMIT (R.seen registry.new))) }
+    ensures gave_few { IfSome (R.seen registry.old).tree (λ t. OnOk result (GaveAtMost (R.seen registry.old) (TEXT_LIMIT + 1) ENTRY_LIMIT (R.seen registry.new))) }
+    ensures gave { IfSome (R.seen registry.old).tree (λ t. ListsOnce t (name_path name.now) (TEXT_LIMIT + 1) (R.seen registry.old) (R.seen registry.new)) }
     ensures kept { Keeps (R.seen registry.old) (R.seen registry.new) }
     ensures fault { IfErr result (VersionsRefused (name_path name.now) (R.seen registry.old) (R.seen registry.new)) }
 {
