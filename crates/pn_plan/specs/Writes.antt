@@ -1,7 +1,7 @@
 -- What a plan makes of a tree.
-use Rattle.std.specs.Prelude.{◌≡◌, Bool, false, List, Option, Some, None}
+use Rattle.std.specs.Prelude.{◌≡◌, ℕ, Bool, false, List, Option, Some, None}
 use Rattle.std.specs.List.{Contains}
-use Rattle.std.specs.Option.{IfSome, ForSome, MatchOption}
+use Rattle.std.specs.Option.{ForSome, MatchOption}
 use Rattle.pn_text.specs.Path.{Path}
 use Rattle.pn_fs.specs.Tree.{Entry, folder, file, link, Tree}
 use Rattle.pn_plan.specs.declared.planned.What.{What}
@@ -9,11 +9,11 @@ use Rattle.pn_plan.specs.declared.planned.What.TheVariants.{Folder, Bytes, Copie
 use Rattle.pn_plan.specs.declared.planned.Planned.{Planned}
 use Rattle.pn_plan.specs.Plan.{is_planned}
 
--- What is planned stands there. Of a copied file this says what the registry tells of it.
+-- What is planned stands there: of a copied file, what the registry has, and a file with some bytes where that isn't told.
 abbrev pub StandsAs : Option Tree → What → Option Entry → Type 0
 StandsAs registry Folder o = o ≡ Some folder
 StandsAs registry (Bytes text) o = o ≡ Some (file text)
-StandsAs registry (Copied p) o = IfSome registry (λ r. o ≡ r p)
+StandsAs registry (Copied p) o = MatchOption registry ((bytes : List ℕ) × (o ≡ Some (file bytes))) (λ r. o ≡ r p)
 StandsAs registry (Link text) o = o ≡ Some (link text)
 
 -- The tree u is t with all that is planned, and nothing else differs.
