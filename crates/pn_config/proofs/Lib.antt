@@ -10,3 +10,4 @@ pub mod PassedProofs
 pub mod CatalogProofs
 pub mod SettledProofs
 pub mod JoinProofs
+pub mod ResolvedProofs

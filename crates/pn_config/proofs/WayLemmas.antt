@@ -15,7 +15,7 @@ use Rattle.pn_config.specs.declared.folder.Way.{Way}
 use Rattle.pn_config.specs.Folders.{led_by}
 use Rattle.pn_config.specs.Ways.{PutsName, PutsPart, led_along}
 
-one_part : (front : List ℕ) → IsTrue (is_flat front) → tail_of front ≡ front ∷ []
+pub one_part : (front : List ℕ) → IsTrue (is_flat front) → tail_of front ≡ front ∷ []
 one_part front flat = parts_from-flat front [] [] (not_true _ flat)
 
 -- one part more

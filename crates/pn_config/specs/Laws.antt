@@ -1,13 +1,16 @@
 -- Laws of the settings in the subject's own words.
-use Rattle.std.specs.Prelude.{◌≡◌, ◌↔◌, ℕ, List, [], ◌∷◌, Bool, true, false, Option, Some, None, MatchOption, if◌then◌else◌, codes}
+use Rattle.std.specs.Prelude.{◌≡◌, ◌≢◌, ◌↔◌, ℕ, List, [], ◌∷◌, ◌++◌, Bool, true, false, IsTrue, Option, Some, None, MatchOption, if◌then◌else◌, codes}
 use Rattle.std.specs.Option.{option_or}
 use Rattle.std.specs.Str.{bytes_eq}
 use Rattle.pn_glob.specs.Matching.{Patterns}
+use Rattle.pn_text.specs.Path.{Path, SpellsAbs, SpellsParts, is_flat, is_part, is_path}
+use Rattle.pn_text.specs.Relative.{parent_of}
 use Rattle.pn_yaml.specs.Data.{Data, map, Members, no_members, member}
 use Rattle.pn_config.specs.declared.config.Config.{Config}
 use Rattle.pn_config.specs.declared.key.Key.TheVariants as key
 use Rattle.pn_config.specs.CatalogTexts.{HasTexts}
 use Rattle.pn_config.specs.Files.{NamesBad, ReadsConfig, joined}
+use Rattle.pn_config.specs.Folders.{resolved}
 use Rattle.pn_config.specs.Keys.{key_of, only_value}
 use Rattle.pn_config.specs.Settings.{SaysNames, SaysPaths, all_names, no_names, no_paths}
 use Rattle.pn_config.specs.Values.{Pair, filled_text, flag_of, pairs_of}
@@ -81,3 +84,16 @@ last_text selector (p ∷ ps) = option_or (last_text selector ps) (if bytes_eq p
 -- Where the file has a selector its text counts, and else that of the root manifest.
 abbrev pub JoinLaw : Type 0
 JoinLaw = (root file : List Pair) (selector : List ℕ) → text_at selector (joined root file) ≡ option_or (last_text selector file) (last_text selector root)
+
+-- Where the text of the virtual store's folder leads. The first six settle each text, by its last part; the others say what
+-- follows of paths' own texts.
+pub record ResolvedLaw : Type 0 where
+  pub absolute : (text : List ℕ) (root : Path) → resolved (47 ∷ text) root ≡ resolved (46 ∷ 47 ∷ text) []
+  pub last : (text part : List ℕ) (root : Path) → text ≢ [] → IsTrue (is_flat part) → resolved (text ++ 47 ∷ part) root ≡ resolved part (resolved text root)
+  pub empty : (root : Path) → resolved [] root ≡ root
+  pub here : (root : Path) → resolved (codes ".") root ≡ root
+  pub up : (root : Path) → resolved (codes "..") root ≡ parent_of root
+  pub down : (part : List ℕ) (root : Path) → IsTrue (is_part part) → resolved part root ≡ part ∷ root
+  pub own : (text : List ℕ) (p root : Path) → SpellsAbs text p → resolved text root ≡ p
+  pub below : (text : List ℕ) (p root : Path) → SpellsParts text p → resolved text root ≡ p ++ root
+  pub path : (text : List ℕ) (root : Path) → IsTrue (is_path root) → IsTrue (is_path (resolved text root))

@@ -1,5 +1,5 @@
 // Laws of the settings in the subject's own words.
-ghost use Rattle.pn_config.specs.Laws.{AnswerLaw, JoinLaw, PassedLaw, SettledLaw};
+ghost use Rattle.pn_config.specs.Laws.{AnswerLaw, JoinLaw, PassedLaw, ResolvedLaw, SettledLaw};
 
 /// A file has at most one answer, memory aside: one value or one bad key, and never both.
 pub fn answer_law()
@@ -19,4 +19,9 @@ pub fn settled_law()
 /// Of two texts for a selector the file's counts.
 pub fn join_law()
     ensures { JoinLaw }
+{}
+
+/// Where the virtual store's text leads: each part leads on from where those before it lead, a slash in front to `/`.
+pub fn resolved_law()
+    ensures { ResolvedLaw }
 {}

@@ -23,5 +23,5 @@ mod value;
 
 pub use config::Config;
 pub use fault::ConfigFault;
-pub use laws::{answer_law, join_law, passed_law, settled_law};
+pub use laws::{answer_law, join_law, passed_law, resolved_law, settled_law};
 pub use overrides::Overrides;
