@@ -1,0 +1,4 @@
+-- for the crates above
+pub mod FindLemmas
+pub mod FitsLemmas
+mod SpotLemmas

@@ -1,0 +1,5 @@
+pub mod Rows
+pub mod Asked
+pub mod Spots
+pub mod Differences
+pub mod Fits

@@ -1,0 +1,4 @@
+pub mod Locks
+pub mod Folders
+pub mod Kept
+pub mod Links
