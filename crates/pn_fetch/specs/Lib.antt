@@ -1,0 +1,5 @@
+pub mod Listings
+pub mod Steps
+pub mod Numbers
+pub mod Faults
+pub mod Laws
