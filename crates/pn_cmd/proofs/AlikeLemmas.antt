@@ -24,13 +24,13 @@ use Rattle.pn_plan.proofs.WithinLemmas.{within_from}
 use Rattle.pn_collect.specs.Outline.{direct_of}
 use Rattle.pn_collect.specs.Packages.{ArePackages}
 use Rattle.pn_collect.proofs.SameLemmas.{same as same_packages}
-use Rattle.pn_cmd.specs.declared.status.Which.TheVariants.{File, Path as PathLength}
-use Rattle.pn_cmd.specs.declared.status.Status.{Status}
-use Rattle.pn_cmd.specs.declared.status.Status.TheVariants.{Done, Memory, Limit, ProjectFault, RegistryFault, SinkFault}
+use Rattle.pn_status.specs.declared.status.Which.TheVariants.{File, Path as PathLength, Numbers}
+use Rattle.pn_status.specs.declared.status.Status.{Status}
+use Rattle.pn_status.specs.declared.status.Status.TheVariants.{Done, Memory, Limit, DigestClash, ProjectFault, StoreFault, RegistryFault, SinkFault}
 use Rattle.pn_cmd.specs.World.{World, Inputs, Shown, shown, trees_of}
 use Rattle.pn_cmd.specs.Points.{Refuses, IsFree, then}
 use Rattle.pn_cmd.specs.Names.{package_name, lock_name, modules_path}
-use Rattle.pn_cmd.specs.Known.{Space, Declared, Project, Graph, Sources, Build, space_of, project_of}
+use Rattle.pn_cmd.specs.Known.{Space, Declared, Project, Graph, Sources, Fetched, Build, space_of, project_of}
 use Rattle.pn_cmd.specs.Spaces.{workspace}
 use Rattle.pn_cmd.specs.Stores.{store}
 use Rattle.pn_workspace.proofs.AnswerLemmas.{answer as space_answer}
@@ -40,13 +40,13 @@ use Rattle.pn_cmd.specs.Manifests.{Declares, manifest}
 use Rattle.pn_cmd.specs.Graph.{graph, inputs_of, root}
 use Rattle.pn_cmd.specs.Packages.{listed}
 use Rattle.pn_cmd.specs.Plans.{planned, IsPlanned}
-use Rattle.pn_cmd.specs.Chain.{words_at, workspace_at, manifest_at, store_at, lock_at, graph_at, modules_at, listed_at, planned_at, tree, goal, from_store, from_manifest, install}
+use Rattle.pn_cmd.specs.Chain.{words_at, workspace_at, manifest_at, store_at, lock_at, graph_at, modules_at, listed_at, fetched_at, planned_at, tree, goal, from_store, from_manifest, gathered, prepared, install}
 use Rattle.pn_cmd.specs.Reports.{report_of}
-use Rattle.pn_cmd.specs.Endings.{Ends, refused, stopped, unreported, done, Stops, Unreported, Untouched, IsDone, IsInstalled, Installs}
+use Rattle.pn_cmd.specs.Endings.{Ends, refused, unprepared, stopped, unreported, done, Stops, Unreported, Unwritten, IsDone, IsInstalled, Installs}
 use Rattle.pn_cmd.specs.Laws.{AreTold, IsOwn, Starts, EndAlike, SettledLaw}
 use Rattle.pn_cmd.proofs.CauseLemmas.{cause_in}
 use Rattle.pn_cmd.proofs.FoundLemmas.{same_manifest}
-use Rattle.pn_cmd.proofs.OrderLemmas.{order_law}
+use Rattle.pn_cmd.proofs.OrderLemmas.{fetched_free, order_law}
 use Rattle.pn_cmd.proofs.OnceLemmas.{told, words_once, space_once, store_once, stands_once, manifest_once, graph_once, listed_once}
 use Rattle.pn_cmd.proofs.SettledLemmas.{IsSettled, own_free, then_settled, step_settled, plain_settled}
 
@@ -60,7 +60,10 @@ record OneSource (r : Tree) (k j : Sources) : Type 0 where
   second : ArePackages (Some r) k.graph.plain j.packages
 
 abbrev OneBuild : Tree → Build → Build → Type 0
-OneBuild r b c = OneSource r b.sources c.sources
+OneBuild r b c = OneSource r b.fetched.sources c.fetched.sources
+
+abbrev OneFetched : Tree → Fetched → Fetched → Type 0
+OneFetched r k j = OneSource r k.sources j.sources
 
 abbrev Same : {X : Type 0} → X → X → Type 0
 Same x z = x ≡ z
@@ -147,32 +150,42 @@ turned r k j e = record {
   second = subst (λ (m : Graph). ArePackages (Some r) m.plain k.packages) e.graph e.first;
 }
 
-planned_settled : (t r : Tree) → IsSettled (told t r) (OneSource r) (OneBuild r) planned_at
+planned_settled : (t r : Tree) → IsSettled (told t r) (OneFetched r) (OneBuild r) planned_at
 planned_settled t r = record {
-  finds = λ k j x z e f g. subst (λ (m : Build). OneBuild r m z) (sym f.is) (subst (OneBuild r (record { sources = k; plan = f.value })) (sym g.is) e);
-  apart = λ k j x s e f c. planned_apart t r k j f.value s e f.found c;
-  other = λ k j x s e c f. planned_apart t r j k f.value s (turned r k j e) f.found c;
-  cause = λ k j s v e c d o u. planned_once t r k j s v e c d;
+  finds = λ k j x z e f g. subst (λ (m : Build). OneBuild r m z) (sym f.is) (subst (OneBuild r (record { fetched = k; plan = f.value })) (sym g.is) e);
+  apart = λ k j x s e f c. planned_apart t r k.sources j.sources f.value s e f.found c;
+  other = λ k j x s e c f. planned_apart t r j.sources k.sources f.value s (turned r k.sources j.sources e) f.found c;
+  cause = λ k j s v e c d o u. planned_once t r k.sources j.sources s v e c d;
+}
+
+fetched_settled : (t r : Tree) → IsSettled (told t r) (OneSource r) (OneFetched r) fetched_at
+fetched_settled t r = record {
+  finds = λ k j x z e f g. subst (λ (m : Fetched). OneFetched r m z) (sym f.is) (subst (OneFetched r (record { sources = k; listings = f.value })) (sym g.is) e);
+  apart = λ k j x s e f c. fetched_free j.packages (told t r) s (are_told t r) c;
+  other = λ k j x s e c f. fetched_free k.packages (told t r) s (are_told t r) c;
+  cause = λ k j s v e c d o u. own_free s o (fetched_free k.packages (told t r) s (are_told t r) c);
 }
 
 install_settled : (t r : Tree) → IsTree r → IsSettled (told t r) Same (OneBuild r) install
 install_settled t r shape =
     let w = told t r in
-    let last = then_settled w Same (OneSource r) (OneBuild r) listed_at planned_at (listed_settled t r shape) (planned_settled t r) in
-    let trees = then_settled w Same Same (OneBuild r) modules_at (then listed_at planned_at) (modules_settled t r) last in
-    let graph = then_settled w Same Same (OneBuild r) graph_at tree (graph_settled t r) trees in
-    let goals = then_settled w Same Same (OneBuild r) lock_at (then graph_at tree) (lock_settled t r) graph in
-    let stores = then_settled w Same Same (OneBuild r) store_at goal (store_settled t r) goals in
-    let project = then_settled w Same Same (OneBuild r) manifest_at from_store (manifest_settled t r) stores in
-    let root = then_settled w Same Same (OneBuild r) workspace_at from_manifest (workspace_settled t r) project in
-    then_settled w Same Same (OneBuild r) words_at (then workspace_at from_manifest) (words_settled t r) root
+    let one = OneSource r in
+    let trees = then_settled w Same Same one modules_at listed_at (modules_settled t r) (listed_settled t r shape) in
+    let graph = then_settled w Same Same one graph_at tree (graph_settled t r) trees in
+    let goals = then_settled w Same Same one lock_at (then graph_at tree) (lock_settled t r) graph in
+    let stores = then_settled w Same Same one store_at goal (store_settled t r) goals in
+    let project = then_settled w Same Same one manifest_at from_store (manifest_settled t r) stores in
+    let root = then_settled w Same Same one workspace_at from_manifest (workspace_settled t r) project in
+    let all = then_settled w Same Same one words_at (then workspace_at from_manifest) (words_settled t r) root in
+    let ready = then_settled w one (OneFetched r) (OneBuild r) fetched_at planned_at (fetched_settled t r) (planned_settled t r) in
+    then_settled w Same one (OneBuild r) gathered prepared all ready
 
 shown_is : (t r : Tree) (old : World) → Starts t r old → shown old ≡ told t r
 shown_is t r old at = λ i. record { trees = record { project = at.project i; registry = at.registry i } }
 
 -- A run that ends of itself is refused before anything is written, or done.
 abbrev Ended : Tree → Tree → Inputs → World → World → Status → Type 0
-Ended t r i old new s = (install.Cause i (told t r) s × Untouched old new) ⊎ ((s ≡ Done) × ((b : Build) × IsDone i b old new))
+Ended t r i old new s = (install.Cause i (told t r) s × Unwritten old new) ⊎ ((s ≡ Done) × ((b : Build) × IsDone i b old new))
 
 no_memory : {C : Type 0} (s : Status) → IsOwn s → s ≡ Memory → C
 no_memory s o e = absurd (subst IsOwn e o)
@@ -180,6 +193,9 @@ no_memory s o e = absurd (subst IsOwn e o)
 no_stop : {C : Type 0} (t r : Tree) (old new : World) (s : Status) → Starts t r old → IsOwn s → Refuses Stops old new s → C
 no_stop t r old new Memory at o h = absurd o
 no_stop t r old new ProjectFault at o h = absurd o
+no_stop t r old new StoreFault at o h = absurd o
+no_stop t r old new (DigestClash a) at o h = absurd o
+no_stop t r old new (Limit Numbers n) at o h = absurd o
 no_stop t r old new RegistryFault at o h = absurd o
 no_stop t r old new SinkFault at o h = absurd o
 no_stop t r old new (Limit File n) at o h = absurd (none_told r (sym h.1 ∙ at.registry))
@@ -191,14 +207,21 @@ no_stop t r old new s at o h = absurd h
 no_report : {C : Type 0} (old new : World) (s : Status) → IsOwn s → Refuses Unreported old new s → C
 no_report old new Memory o h = absurd o
 no_report old new ProjectFault o h = absurd o
+no_report old new StoreFault o h = absurd o
+no_report old new (DigestClash at) o h = absurd o
+no_report old new (Limit Numbers n) o h = absurd o
 no_report old new RegistryFault o h = absurd o
 no_report old new SinkFault o h = absurd o
 no_report old new s o h = absurd h
 
 ended : (t r : Tree) (i : Inputs) (old new : World) (s : Status) → Starts t r old → Ends i old new s → IsOwn s → Ended t r i old new s
-ended t r i old new _ at (refused s c u) o = elim (cause_in (install.Cause i) old new s c) [
+ended t r i old new _ at (refused s c u) o = elim (cause_in (gathered.Cause i) old new s c) [
   | inl e ↦ no_memory s o e
-  | inr h ↦ inl (subst (λ w. install.Cause i w s) (shown_is t r old at) h, u)
+  | inr h ↦ inl (subst (λ w. install.Cause i w s) (shown_is t r old at) (inl h), u.unwritten)
+]
+ended t r i old new _ at (unprepared s k f c u) o = elim (cause_in (prepared.Cause k) old new s c) [
+  | inl e ↦ no_memory s o e
+  | inr h ↦ inl (subst (λ w. install.Cause i w s) (shown_is t r old at) (inr (k, f, h)), u.unwritten)
 ]
 ended t r i old new _ at (stopped s b f c h) o = no_stop t r old new s at o c
 ended t r i old new _ at (unreported s b f c w h) o = no_report old new s o c
@@ -230,14 +253,14 @@ installed_told registry place m plain packages t r old new er eo h = subst (λ (
 both_done : (i : Inputs) (t r : Tree) (old new other now : World) (s v : Status) → Starts t r old → Starts t r other → s ≡ Done → v ≡ Done → (a b : Build) → IsDone i a old new → IsDone i b other now → OneBuild r a b → EndAlike old new other now s v
 both_done i t r old new other now s v st ot es ev a b da db one =
     let top = modules_path i.place in
-    let own = direct_of a.sources.graph.plain in
-    let p = a.sources.packages in
-    let q = b.sources.packages in
-    let same : map contents p ≡ map contents q = one_list r a.sources b.sources one in
-    let owns : direct_of b.sources.graph.plain ≡ own = sym (ap (λ (g : Graph). direct_of g.plain) one.graph) in
-    let plans : plan_of r top (direct_of b.sources.graph.plain) q ≡ plan_of r top own p = ap (λ (l : List Pair). plan_of r top l q) owns ∙ sym (same_plan r top own p q same) in
-    let ia = installed_told old.registry.tree i.place a.sources.graph.project.said a.sources.graph.plain p t r old.project.tree new.project.tree st.registry st.project da.written.project in
-    let ib = installed_told other.registry.tree i.place b.sources.graph.project.said b.sources.graph.plain q t r other.project.tree now.project.tree ot.registry ot.project db.written.project in
+    let own = direct_of a.fetched.sources.graph.plain in
+    let p = a.fetched.sources.packages in
+    let q = b.fetched.sources.packages in
+    let same : map contents p ≡ map contents q = one_list r a.fetched.sources b.fetched.sources one in
+    let owns : direct_of b.fetched.sources.graph.plain ≡ own = sym (ap (λ (g : Graph). direct_of g.plain) one.graph) in
+    let plans : plan_of r top (direct_of b.fetched.sources.graph.plain) q ≡ plan_of r top own p = ap (λ (l : List Pair). plan_of r top l q) owns ∙ sym (same_plan r top own p q same) in
+    let ia = installed_told old.registry.tree i.place a.fetched.sources.graph.project.said a.fetched.sources.graph.plain p t r old.project.tree new.project.tree st.registry st.project da.written.project in
+    let ib = installed_told other.registry.tree i.place b.fetched.sources.graph.project.said b.fetched.sources.graph.plain q t r other.project.tree now.project.tree ot.registry ot.project db.written.project in
     let built : IsBuilt ib.0 (plan_of r top own p) = subst (IsBuilt ib.0) plans ib.2.built in
     let trees : ia.0 ≡ ib.0 = λ j x. one_tree t ia.0 ib.0 top (plan_of r top own p) refl ia.2.built built ia.2.others ib.2.others x j in
     let lengths : length p ≡ length q = sym (length-map p contents) ∙ ap length same ∙ length-map q contents in

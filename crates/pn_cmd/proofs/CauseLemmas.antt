@@ -1,5 +1,5 @@
 -- How a run ends gives each answer its cause.
-use Rattle.std.proofs.Common.{◌≡◌, ◌⊎◌, ◌∷◌, refl, sym, subst, inl, inr}
+use Rattle.std.proofs.Common.{◌≡◌, ◌⊎◌, ◌∷◌, List, refl, sym, subst, inl, inr}
 use Rattle.pn_text.specs.Path.{Path}
 use Rattle.pn_choice.specs.declared.fault.ChoiceFault.{ChoiceFault}
 use Rattle.pn_choice.specs.declared.fault.ChoiceFault.TheVariants.{Unsupported as FaultUnsupported, Unbuilt as FaultUnbuilt, NoVersion as FaultNoVersion, Registry as FaultRegistry, Packages as FaultPackages, Fault as ChoiceFailed, Memory as NoChoiceMemory}
@@ -9,15 +9,15 @@ use Rattle.pn_choice.specs.Refusals.{Unplain}
 use Rattle.pn_collect.specs.declared.fault.CollectFault.{CollectFault}
 use Rattle.pn_collect.specs.declared.fault.CollectFault.TheVariants.{Modules, TooLarge, Entries as FaultEntries, Fault as CollectFailed, Memory as NoCollectMemory}
 use Rattle.pn_collect.specs.CollectFaults.{IsFirstRefused}
-use Rattle.pn_cmd.specs.declared.status.Which.TheVariants.{File, Text, Path as PathLength}
+use Rattle.pn_status.specs.declared.status.Which.TheVariants.{File, Text, Path as PathLength, Numbers}
 use Rattle.pn_workspace.specs.Laws.{IsOwn}
 use Rattle.pn_workspace.specs.Workspaces.{NoWorkspace}
 use Rattle.pn_workspace.specs.declared.fault.WorkspaceFault.{WorkspaceFault}
 use Rattle.pn_workspace.specs.declared.fault.WorkspaceFault.TheVariants.{Long, TooLarge as SpaceLarge, Wrong, Fault as SpaceFailed, Memory as NoSpaceMemory}
 use Rattle.pn_workspace.specs.declared.fault.WorkspaceWhy.TheVariants.{BadKey}
-use Rattle.pn_cmd.specs.declared.status.FileWhy.TheVariants.{Manifest as of_manifest, Workspace as of_workspace}
-use Rattle.pn_cmd.specs.declared.status.Status.{Status}
-use Rattle.pn_cmd.specs.declared.status.Status.TheVariants.{Memory, Usage, Manifest as BadManifest, Limit, ProjectFault, RegistryFault, SinkFault, NotYet}
+use Rattle.pn_status.specs.declared.status.FileWhy.TheVariants.{Manifest as of_manifest, Workspace as of_workspace}
+use Rattle.pn_status.specs.declared.status.Status.{Status}
+use Rattle.pn_status.specs.declared.status.Status.TheVariants.{Memory, Usage, Manifest as BadManifest, Limit, DigestClash, ProjectFault, StoreFault, RegistryFault, SinkFault, NotYet}
 use Rattle.pn_cmd.specs.World.{World, Inputs, Shown, shown, trees_of}
 use Rattle.pn_cmd.specs.Points.{Refuses, then}
 use Rattle.pn_cmd.specs.Names.{package_name, lock_name, modules_path}
@@ -27,20 +27,18 @@ use Rattle.pn_cmd.specs.Standing.{Stands}
 use Rattle.pn_cmd.specs.Manifests.{NoManifest}
 use Rattle.pn_cmd.specs.Graph.{lack_status, choice_status, inputs_of}
 use Rattle.pn_cmd.specs.Known.{Space, Graph, Project, Sources, Build}
+use Rattle.pn_layout.specs.declared.packages.Package.{Package}
 use Rattle.pn_cmd.specs.Packages.{collect_status}
+use Rattle.pn_cmd.specs.Fetches.{Unfetched}
 use Rattle.pn_cmd.specs.Plans.{TooLong}
-use Rattle.pn_cmd.specs.Chain.{words_at, workspace_at, manifest_at, store_at, lock_at, graph_at, modules_at, listed_at, planned_at, tree, goal, from_store, from_manifest, install, to_workspace, to_manifest, to_store, to_lock, to_graph, to_modules, StandsAt, at_words, at_workspace, at_manifest, at_store, at_lock, at_graph, at_modules, at_listed, at_planned}
-use Rattle.pn_cmd.specs.Endings.{refused, stopped, unreported, done, Stops, Unreported}
-use Rattle.pn_cmd.specs.Causes.{CauseOf, IsUnspaced, IsKept, IsUnread, IsDisplaced, IsUngraphed, IsUnlisted, IsUnplanned}
+use Rattle.pn_cmd.specs.Chain.{words_at, workspace_at, manifest_at, store_at, lock_at, graph_at, modules_at, listed_at, fetched_at, planned_at, tree, goal, from_store, from_manifest, gathered, prepared, install, to_workspace, to_manifest, to_store, to_lock, to_graph, to_modules, StandsAt, at_words, at_workspace, at_manifest, at_store, at_lock, at_graph, at_modules, at_listed, at_fetched, at_planned}
+use Rattle.pn_cmd.specs.Endings.{refused, unprepared, stopped, unreported, done, Stops, Unreported}
+use Rattle.pn_cmd.specs.Causes.{CauseOf, IsUnspaced, IsKept, IsUnread, IsDisplaced, IsUngraphed, IsUnlisted, IsUnfetched, IsUnplanned}
 use Rattle.pn_cmd.specs.Laws.{CauseLaw}
-use Rattle.pn_cmd.proofs.PointLemmas.{leads_then}
+use Rattle.pn_cmd.proofs.PointLemmas.{first_refuses, kept_none, leads_then, second_refuses}
 
 tree_at : (i : Inputs) (w : Shown) (s : Status) (k : Graph) → to_graph.Finds i w.trees k → tree.Cause k w s → StandsAt i w s
-tree_at i w s k f =
-    leads_then modules_at (then listed_at planned_at) k w s (λ c. at_modules (k, f, c)) (λ k6 f6.
-    let g6 : to_modules.Finds i w.trees k6 = record { value = k; first = f; rest = f6 } in
-    leads_then listed_at planned_at k6 w s (λ c. at_listed (k6, g6, c)) (λ k7 f7 c.
-    at_planned (k7, record { value = k6; first = g6; rest = f7 }, c)))
+tree_at i w s k f = leads_then modules_at listed_at k w s (λ c. at_modules (k, f, c)) (λ k6 f6 c. at_listed (k6, record { value = k; first = f; rest = f6 }, c))
 
 goal_at : (i : Inputs) (w : Shown) (s : Status) (k : Project) → to_store.Finds i w.trees k → goal.Cause k w s → StandsAt i w s
 goal_at i w s k f =
@@ -50,8 +48,8 @@ goal_at i w s k f =
     tree_at i w s k5 (record { value = k4; first = g4; rest = f5 }) c))
 
 -- the cause of a refusal is at one of the points, after all that is found before it
-pub refused_at : (i : Inputs) (w : Shown) (s : Status) → install.Cause i w s → StandsAt i w s
-refused_at i w s =
+gathered_at : (i : Inputs) (w : Shown) (s : Status) → gathered.Cause i w s → StandsAt i w s
+gathered_at i w s =
     leads_then words_at (then workspace_at from_manifest) i w s at_words (λ k1 f1.
     leads_then workspace_at from_manifest k1 w s (λ c. at_workspace (k1, f1, c)) (λ k2 f2.
     let g2 : to_workspace.Finds i w.trees k2 = record { value = k1; first = f1; rest = f2 } in
@@ -59,6 +57,12 @@ refused_at i w s =
     let g3 : to_manifest.Finds i w.trees k3 = record { value = k2; first = g2; rest = f3 } in
     leads_then store_at goal k3 w s (λ c. at_store (k3, g3, c)) (λ k4 f4 c.
     goal_at i w s k4 (record { value = k3; first = g3; rest = f4 }) c))))
+
+prepared_at : (i : Inputs) (w : Shown) (s : Status) (k : Sources) → gathered.Finds i w.trees k → prepared.Cause k w s → StandsAt i w s
+prepared_at i w s k f = leads_then fetched_at planned_at k w s (λ c. at_fetched (k, f, c)) (λ k8 f8 c. at_planned (k8, record { value = k; first = f; rest = f8 }, c))
+
+pub refused_at : (i : Inputs) (w : Shown) (s : Status) → install.Cause i w s → StandsAt i w s
+refused_at i w s = leads_then gathered prepared i w s (gathered_at i w s) (prepared_at i w s)
 
 words_cause : (i : Inputs) (old new : World) (s : Status) → words_at.Cause i (shown old) s → CauseOf i old new s
 words_cause i old new Usage h = h
@@ -127,6 +131,14 @@ listed_cause : (i : Inputs) (old new : World) (s : Status) → IsUnlisted i (sho
 listed_cause i old new RegistryFault h r = r.0
 listed_cause i old new s h r = subst (CauseOf i old new) (sym h.2.1) (collect_cause i old new h.0 h.1 h.2.0 h.2.2)
 
+fetched_cause : (i : Inputs) (old new : World) (s : Status) (packages : List Package) → Unfetched packages (shown old) s → IsUnfetched i (shown old) s → Refuses (install.Cause i) old new s → CauseOf i old new s
+fetched_cause i old new StoreFault packages h all r = (r.0, all)
+fetched_cause i old new RegistryFault packages h all r = r.0
+fetched_cause i old new (DigestClash at) packages h all r = (r.0, all)
+fetched_cause i old new (Limit Numbers n) packages h all r = (r.0, all)
+fetched_cause i old new (Limit File n) packages h all r = inr (inl all)
+fetched_cause i old new s packages h all r = absurd h
+
 planned_cause : (i : Inputs) (old new : World) (s : Status) (k : Sources) → TooLong k (shown old) s → IsUnplanned i (shown old) s → CauseOf i old new s
 planned_cause i old new (Limit PathLength n) k h all = inr (inr (inr (inr all)))
 planned_cause i old new s k h all = absurd h
@@ -140,12 +152,16 @@ at_point i old new s (at_lock h) r = stands_cause i old new s (lock_name ∷ h.0
 at_point i old new s (at_graph h) r = graph_cause i old new s h r
 at_point i old new s (at_modules h) r = stands_cause i old new s (modules_path h.0.project.place) h.2 (inr h) r
 at_point i old new s (at_listed h) r = listed_cause i old new s h r
-at_point i old new s (at_planned h) r = planned_cause i old new s h.0 h.2 h
+at_point i old new s (at_fetched h) r = fetched_cause i old new s h.0.packages h.2 h r
+at_point i old new s (at_planned h) r = planned_cause i old new s h.0.sources h.2 h
 
 -- what a refusal says besides the count of faults
 pub cause_in : (C : Shown → Status → Type 0) (old new : World) (s : Status) → Refuses C old new s → (s ≡ Memory) ⊎ C (shown old) s
 cause_in C old new Memory h = inl refl
 cause_in C old new ProjectFault h = inr h.1
+cause_in C old new StoreFault h = inr h.1
+cause_in C old new (DigestClash at) h = inr h.1
+cause_in C old new (Limit Numbers n) h = inr h.1
 cause_in C old new RegistryFault h = inr h.1
 cause_in C old new SinkFault h = inr h.1
 cause_in C old new s h = inr h
@@ -160,7 +176,10 @@ stops_cause : (i : Inputs) (old new : World) (s : Status) → Refuses Stops old 
 stops_cause i old new Memory h = tt
 stops_cause i old new ProjectFault h = h.0
 stops_cause i old new RegistryFault h = h.0
-stops_cause i old new (Limit File n) h = inr h
+stops_cause i old new (Limit File n) h = inr (inr h)
+stops_cause i old new StoreFault h = absurd h.1
+stops_cause i old new (DigestClash at) h = absurd h.1
+stops_cause i old new (Limit Numbers n) h = absurd h.1
 stops_cause i old new SinkFault h = absurd h.1
 stops_cause i old new s h = absurd h
 
@@ -168,11 +187,15 @@ unreported_cause : (i : Inputs) (old new : World) (s : Status) (b : Build) → i
 unreported_cause i old new Memory b f h = tt
 unreported_cause i old new SinkFault b f h = (h.0, (b, f))
 unreported_cause i old new ProjectFault b f h = absurd h.1
+unreported_cause i old new StoreFault b f h = absurd h.1
+unreported_cause i old new (DigestClash at) b f h = absurd h.1
+unreported_cause i old new (Limit Numbers n) b f h = absurd h.1
 unreported_cause i old new RegistryFault b f h = absurd h.1
 unreported_cause i old new s b f h = absurd h
 
 pub end_cause : CauseLaw
-end_cause i old new _ (refused s r u) = refused_cause i old new s r
+end_cause i old new _ (refused s r u) = refused_cause i old new s (first_refuses gathered prepared i old new s r)
+end_cause i old new _ (unprepared s k f r u) = refused_cause i old new s (second_refuses gathered prepared i k old old new s (kept_none old) f r)
 end_cause i old new _ (stopped s b p f h) = stops_cause i old new s f
 end_cause i old new _ (unreported s b p f w t) = unreported_cause i old new s b p f
 end_cause i old new _ (done b d) = (b, d)

@@ -33,8 +33,8 @@ pub lookup_law : LookupLaw
 lookup_law i old new ends r t u d er et eu manifest =
     let done = end_cause i old new _ ends in
     let b = done.0 in
-    let m = b.sources.graph.project.said in
-    let p = has_passed i (trees_of old) b done.1.passed in
+    let m = b.fetched.sources.graph.project.said in
+    let p = (has_passed i (trees_of old) b done.1.passed).gathered in
     let read : IsManifest (t (package_name ∷ i.place)) p.declares.value = subst (λ (o : Option Tree). IfSome o (λ t. IsManifest (t (package_name ∷ i.place)) p.declares.value)) et p.declares.manifest.read in
     let same : m ≡ said d = p.declares.says ∙ ap said (same_manifest (t (package_name ∷ i.place)) p.declares.value d read manifest) in
-    subst (LooksUp r u i.place) same (installed_at old.registry.tree i.place m b.sources.graph.plain b.sources.packages t u r old.project.tree new.project.tree er et eu done.1.written.project).lookup
+    subst (LooksUp r u i.place) same (installed_at old.registry.tree i.place m b.fetched.sources.graph.plain b.fetched.sources.packages t u r old.project.tree new.project.tree er et eu done.1.written.project).lookup

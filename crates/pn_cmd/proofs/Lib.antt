@@ -2,6 +2,7 @@ pub mod PointLemmas
 pub mod AlikeLemmas
 pub mod CauseLemmas
 pub mod EndingLemmas
+pub mod FetchLemmas
 pub mod FoundLemmas
 pub mod GraphLemmas
 pub mod LookupLemmas
@@ -13,6 +14,5 @@ pub mod RegistryTexts
 pub mod SettledLemmas
 pub mod StandingLemmas
 pub mod StoreLemmas
-pub mod TakenLemmas
 pub mod WrittenLemmas
 mod LinkLemmas

@@ -12,12 +12,13 @@ use Rattle.pn_manifest.specs.Says.{said_of}
 use Rattle.pn_manifest.specs.declared.manifest.Manifest.{Manifest}
 use Rattle.pn_manifest.specs.declared.fault.ManifestWhy.{ManifestWhy}
 use Rattle.pn_manifest.specs.declared.fault.ManifestWhy.TheVariants.{Missing, NotJson, BadField}
-use Rattle.pn_cmd.specs.declared.status.FileWhy.TheVariants.{Manifest as of_manifest}
-use Rattle.pn_cmd.specs.declared.status.Status.{Status}
-use Rattle.pn_cmd.specs.declared.status.Status.TheVariants.{Memory, Manifest as BadManifest, NotYet}
+use Rattle.pn_status.specs.declared.status.FileWhy.TheVariants.{Manifest as of_manifest}
+use Rattle.pn_status.specs.declared.status.Status.{Status}
+use Rattle.pn_status.specs.declared.status.Status.TheVariants.{Memory, Manifest as BadManifest, NotYet}
 use Rattle.pn_cmd.specs.World.{World}
 use Rattle.pn_cmd.specs.Points.{Refuses}
-use Rattle.pn_cmd.specs.Manifests.{NoManifest, Declares, IsText, IsManifest, FoundIn, BytesRefused, IsWrong, project_later}
+use Rattle.pn_workspace.specs.Contents.{IsText}
+use Rattle.pn_cmd.specs.Manifests.{NoManifest, Declares, IsManifest, FoundIn, BytesRefused, IsWrong, project_later}
 
 read_at : (shown : Option Tree) (p : Path) (bytes : List ℕ) (d : Data) → IfSome shown (λ t. IsText (t p) bytes) → IsObjectText bytes d → first_wrong d ≡ None → IfSome shown (λ t. IsManifest (t p) d)
 read_at None p bytes d is text right = tt

@@ -18,26 +18,27 @@ use Rattle.pn_collect.specs.CollectFaults.{IsFirstRefused}
 use Rattle.pn_collect.specs.declared.fault.CollectFault.{CollectFault}
 use Rattle.pn_collect.proofs.CauseLemmas.{cause as listed_cause}
 use Rattle.pn_manifest.specs.declared.fault.ManifestWhy.TheVariants.{Missing, NotJson, BadField}
-use Rattle.pn_cmd.specs.declared.status.Which.TheVariants.{Text, Path as PathLength}
+use Rattle.pn_status.specs.declared.status.Which.TheVariants.{Text, Path as PathLength}
 use Rattle.pn_text.proofs.Bools.{true_false}
 use Rattle.pn_workspace.specs.Laws.{IsOwn as FaultOwn}
 use Rattle.pn_workspace.specs.Stores.{is_misplaced, store_of}
-use Rattle.pn_workspace.specs.Workspaces.{Fits, IsWorkspace, NoWorkspace}
+use Rattle.pn_workspace.specs.Workspaces.{IsWorkspace, NoWorkspace}
 use Rattle.pn_workspace.specs.declared.fault.WorkspaceFault.{WorkspaceFault}
-use Rattle.pn_workspace.specs.declared.fault.WorkspaceFault.TheVariants.{Long}
 use Rattle.pn_workspace.specs.declared.fault.WorkspaceWhy.TheVariants.{BadKey}
 use Rattle.pn_workspace.specs.declared.search.Workspace.{Workspace}
 use Rattle.pn_workspace.proofs.AnswerLemmas.{answer as space_answer}
-use Rattle.pn_cmd.specs.declared.status.FileWhy.TheVariants.{Manifest as of_manifest, Workspace as of_workspace}
-use Rattle.pn_cmd.specs.declared.status.Status.{Status}
-use Rattle.pn_cmd.specs.declared.status.Status.TheVariants.{Usage, Manifest as BadManifest, Limit, ProjectFault, RegistryFault, NotYet}
+use Rattle.pn_status.specs.declared.status.FileWhy.TheVariants.{Manifest as of_manifest, Workspace as of_workspace}
+use Rattle.pn_status.specs.declared.status.Status.{Status}
+use Rattle.pn_status.specs.declared.status.Status.TheVariants.{Usage, Manifest as BadManifest, Limit, ProjectFault, RegistryFault, NotYet}
 use Rattle.pn_cmd.specs.World.{Shown}
 use Rattle.pn_cmd.specs.Words.{AreNoCommand}
 use Rattle.pn_cmd.specs.Known.{Space}
 use Rattle.pn_cmd.specs.Spaces.{NoSpace, space_status, unbuilt_space}
 use Rattle.pn_cmd.specs.Standing.{Stands}
 use Rattle.pn_cmd.specs.Stores.{NoDefault, projects_of}
-use Rattle.pn_cmd.specs.Manifests.{NoManifest, IsText, IsManifest, IsWrong, project_later}
+use Rattle.pn_workspace.specs.Contents.{IsText}
+use Rattle.pn_workspace.proofs.AnswerLemmas.{too_large}
+use Rattle.pn_cmd.specs.Manifests.{NoManifest, IsManifest, IsWrong, project_later}
 use Rattle.pn_cmd.specs.Graph.{HasNoGraph, choice_status, inputs_of}
 use Rattle.pn_cmd.specs.Packages.{Unlisted, collect_status}
 use Rattle.pn_cmd.specs.Laws.{IsOwn}
@@ -56,27 +57,21 @@ words_once words w s v h k = absurd h
 abbrev SpaceRefused : Tree → Path → Status → Type 0
 SpaceRefused t p s =
     ((fault : WorkspaceFault) × (s ≡ space_status fault) × FaultOwn fault × NoWorkspace (Some t) p fault)
-    ⊎ ((text : List ℕ) × (s ≡ NotYet text) × Fits p × ((space : Workspace) × IsWorkspace t p space × (unbuilt_space p space ≡ Some text)))
+    ⊎ ((text : List ℕ) × (s ≡ NotYet text) × ((space : Workspace) × IsWorkspace t p space × (unbuilt_space p space ≡ Some text)))
 
 space_as : (t r : Tree) (p : Path) (s : Status) → IsOwn s → NoSpace p (told t r) s → SpaceRefused t p s
 space_as t r p ProjectFault o h = absurd o
-space_as t r p (NotYet text) o h = inr (text, refl, h.0, h.1)
+space_as t r p (NotYet text) o h = inr (text, refl, h.1)
 space_as t r p s o h = inl h
-
-found_apart : {C : Type 0} (t : Tree) (p : Path) (fault : WorkspaceFault) (space : Workspace) → Fits p → FaultOwn fault → NoWorkspace (Some t) p fault → IsWorkspace t p space → C
-found_apart t p fault space fits own refused is =
-    let long = space_answer.either t p space fault own is refused in
-    let past : NoWorkspace (Some t) p (Long long.0) = subst (NoWorkspace (Some t) p) long.1 refused in
-    absurd (omega (arith, fits, past.0, past.1))
 
 pub space_once : (t r : Tree) (p : Path) (s v : Status) → NoSpace p (told t r) s → NoSpace p (told t r) v → IsOwn s → IsOwn v → s ≡ v
 space_once t r p s v h k o u = one (space_as t r p s o h) (space_as t r p v u k)
   where
     one : SpaceRefused t p s → SpaceRefused t p v → s ≡ v
     one (inl a) (inl b) = a.1 ∙ ap space_status (space_answer.refusal t p a.0 b.0 a.2 b.2 a.3 b.3) ∙ sym b.1
-    one (inl a) (inr b) = found_apart t p a.0 b.3.0 b.2 a.2 a.3 b.3.1
-    one (inr a) (inl b) = found_apart t p b.0 a.3.0 a.2 b.2 b.3 a.3.1
-    one (inr a) (inr b) = a.1 ∙ ap NotYet (same_Some a.0 b.0 (sym a.3.2 ∙ ap (unbuilt_space p) (space_answer.value t p a.3.0 b.3.0 a.3.1 b.3.1) ∙ b.3.2)) ∙ sym b.1
+    one (inl a) (inr b) = absurd (space_answer.either t p b.2.0 a.0 a.2 b.2.1 a.3)
+    one (inr a) (inl b) = absurd (space_answer.either t p a.2.0 b.0 b.2 a.2.1 b.3)
+    one (inr a) (inr b) = a.1 ∙ ap NotYet (same_Some a.0 b.0 (sym a.2.2 ∙ ap (unbuilt_space p) (space_answer.value t p a.2.0 b.2.0 a.2.1 b.2.1) ∙ b.2.2)) ∙ sym b.1
 
 pub store_once : (k : Space) (w : Shown) (s v : Status) → NoDefault k w s → NoDefault k w v → s ≡ v
 store_once k w (Limit PathLength n) (Limit PathLength m) h j = ap (Limit PathLength) (h.0 ∙ sym j.0)
@@ -120,9 +115,6 @@ FileRefused p e (BadManifest text (of_manifest why)) = (text ≡ path_text p) ×
 FileRefused p e (NotYet key) = (d : Data) × IsManifest e d × (project_later d ≡ Some key)
 FileRefused p e s = ⊥
 
-too_long : (e : Option Entry) (n : ℕ) (bytes : List ℕ) → TEXT_LIMIT < n → IsFileOf n e → IsText e bytes → ⊥
-too_long e n bytes large h text = omega (arith, text.short, ap length (same_file e bytes h.0 text.is h.1), h.2, large)
-
 one_value : (e : Option Entry) (a b : List ℕ) (d f : Data) → IsText e a → IsText e b → IsObjectText a d → IsObjectText b f → d ≡ f
 one_value e a b d f h k m n = same_data a b d f (same_file e a b h.is k.is) m n
 
@@ -135,9 +127,9 @@ apart x h = cc h
 file_once : (p : Path) (e : Option Entry) (s v : Status) → FileRefused p e s → FileRefused p e v → s ≡ v
 file_once p e (Limit Text n) (Limit Text m) h k = ap (Limit Text) (h.1.2 ∙ ap length (same_file e h.1.0 k.1.0 h.1.1 k.1.1) ∙ sym k.1.2)
 file_once p e (Limit Text n) (BadManifest u (of_manifest Missing)) h k = absurd (k.1 h.1.0 h.1.1)
-file_once p e (Limit Text n) (BadManifest u (of_manifest NotJson)) h k = absurd (too_long e n k.1.0 h.0 h.1 k.1.1)
-file_once p e (Limit Text n) (BadManifest u (of_manifest (BadField f g))) h k = absurd (too_long e n k.1.0 h.0 h.1 k.1.2)
-file_once p e (Limit Text n) (NotYet key) h k = absurd (too_long e n k.1.bytes h.0 h.1 k.1.stands)
+file_once p e (Limit Text n) (BadManifest u (of_manifest NotJson)) h k = absurd (too_large e n k.1.0 h.0 h.1 k.1.1)
+file_once p e (Limit Text n) (BadManifest u (of_manifest (BadField f g))) h k = absurd (too_large e n k.1.0 h.0 h.1 k.1.2)
+file_once p e (Limit Text n) (NotYet key) h k = absurd (too_large e n k.1.bytes h.0 h.1 k.1.stands)
 file_once p e (Limit Text n) v h k = absurd k
 file_once p e (BadManifest t (of_manifest Missing)) (Limit Text n) h k = absurd (h.1 k.1.0 k.1.1)
 file_once p e (BadManifest t (of_manifest Missing)) (BadManifest u (of_manifest Missing)) h k = ap (λ (l : List ℕ). BadManifest l (of_manifest Missing)) (h.0 ∙ sym k.0)
@@ -145,13 +137,13 @@ file_once p e (BadManifest t (of_manifest Missing)) (BadManifest u (of_manifest 
 file_once p e (BadManifest t (of_manifest Missing)) (BadManifest u (of_manifest (BadField f g))) h k = absurd (h.1 k.1.0 k.1.2.is)
 file_once p e (BadManifest t (of_manifest Missing)) (NotYet key) h k = absurd (h.1 k.1.bytes k.1.stands.is)
 file_once p e (BadManifest t (of_manifest Missing)) v h k = absurd k
-file_once p e (BadManifest t (of_manifest NotJson)) (Limit Text n) h k = absurd (too_long e n h.1.0 k.0 k.1 h.1.1)
+file_once p e (BadManifest t (of_manifest NotJson)) (Limit Text n) h k = absurd (too_large e n h.1.0 k.0 k.1 h.1.1)
 file_once p e (BadManifest t (of_manifest NotJson)) (BadManifest u (of_manifest Missing)) h k = absurd (k.1 h.1.0 h.1.1.is)
 file_once p e (BadManifest t (of_manifest NotJson)) (BadManifest u (of_manifest NotJson)) h k = ap (λ (l : List ℕ). BadManifest l (of_manifest NotJson)) (h.0 ∙ sym k.0)
 file_once p e (BadManifest t (of_manifest NotJson)) (BadManifest u (of_manifest (BadField f g))) h k = absurd (no_value e h.1.0 k.1.0 k.1.1 h.1.1 k.1.2 h.1.2 k.1.3)
 file_once p e (BadManifest t (of_manifest NotJson)) (NotYet key) h k = absurd (no_value e h.1.0 k.1.bytes k.0 h.1.1 k.1.stands h.1.2 k.1.text)
 file_once p e (BadManifest t (of_manifest NotJson)) v h k = absurd k
-file_once p e (BadManifest t (of_manifest (BadField a b))) (Limit Text n) h k = absurd (too_long e n h.1.0 k.0 k.1 h.1.2)
+file_once p e (BadManifest t (of_manifest (BadField a b))) (Limit Text n) h k = absurd (too_large e n h.1.0 k.0 k.1 h.1.2)
 file_once p e (BadManifest t (of_manifest (BadField a b))) (BadManifest u (of_manifest Missing)) h k = absurd (k.1 h.1.0 h.1.2.is)
 file_once p e (BadManifest t (of_manifest (BadField a b))) (BadManifest u (of_manifest NotJson)) h k = absurd (no_value e k.1.0 h.1.0 h.1.1 k.1.1 h.1.2 k.1.2 h.1.3)
 file_once p e (BadManifest t (of_manifest (BadField a b))) (BadManifest u (of_manifest (BadField f g))) h k =
@@ -163,7 +155,7 @@ file_once p e (BadManifest t (of_manifest (BadField a b))) (NotYet key) h k =
     let one = one_value e h.1.0 k.1.bytes h.1.1 k.0 h.1.2 k.1.stands h.1.3 k.1.text in
     absurd (apart (a, b) (sym h.1.4 ∙ ap first_wrong one ∙ k.1.right))
 file_once p e (BadManifest t (of_manifest (BadField a b))) v h k = absurd k
-file_once p e (NotYet key) (Limit Text n) h k = absurd (too_long e n h.1.bytes k.0 k.1 h.1.stands)
+file_once p e (NotYet key) (Limit Text n) h k = absurd (too_large e n h.1.bytes k.0 k.1 h.1.stands)
 file_once p e (NotYet key) (BadManifest u (of_manifest Missing)) h k = absurd (k.1 h.1.bytes h.1.stands.is)
 file_once p e (NotYet key) (BadManifest u (of_manifest NotJson)) h k = absurd (no_value e k.1.0 h.1.bytes h.0 k.1.1 h.1.stands k.1.2 h.1.text)
 file_once p e (NotYet key) (BadManifest u (of_manifest (BadField f g))) h k =

@@ -14,17 +14,17 @@ use Rattle.pn_collect.specs.Packages.{ArePackages}
 use Rattle.pn_collect.specs.CollectFaults.{IsFirstRefused}
 use Rattle.pn_collect.proofs.Passed.{passed as listed_passed}
 use Rattle.pn_manifest.specs.declared.fault.ManifestWhy.TheVariants.{Missing, NotJson, BadField}
-use Rattle.pn_cmd.specs.declared.status.Which.TheVariants.{Text, Path as PathLength}
+use Rattle.pn_status.specs.declared.status.Which.TheVariants.{File, Text, Path as PathLength, Numbers}
 use Rattle.pn_text.proofs.Bools.{true_false}
 use Rattle.pn_workspace.specs.Stores.{is_misplaced, store_of}
-use Rattle.pn_workspace.specs.Workspaces.{NoWorkspace}
-use Rattle.pn_workspace.specs.declared.fault.WorkspaceFault.TheVariants.{Long}
 use Rattle.pn_workspace.specs.declared.fault.WorkspaceWhy.TheVariants.{BadKey}
 use Rattle.pn_workspace.specs.declared.search.Workspace.{Workspace}
 use Rattle.pn_workspace.proofs.AnswerLemmas.{answer as space_answer}
-use Rattle.pn_cmd.specs.declared.status.FileWhy.TheVariants.{Manifest as of_manifest, Workspace as of_workspace}
-use Rattle.pn_cmd.specs.declared.status.Status.{Status}
-use Rattle.pn_cmd.specs.declared.status.Status.TheVariants.{Usage, Manifest as BadManifest, Limit, ProjectFault, RegistryFault, NotYet}
+use Rattle.pn_status.specs.declared.status.FileWhy.TheVariants.{Manifest as of_manifest, Workspace as of_workspace}
+use Rattle.pn_status.specs.declared.status.Status.{Status}
+use Rattle.pn_status.specs.declared.status.Status.TheVariants.{Usage, Manifest as BadManifest, Limit, DigestClash, ProjectFault, StoreFault, RegistryFault, NotYet}
+use Rattle.pn_layout.specs.declared.packages.Package.{Package}
+use Rattle.pn_cmd.specs.World.{Shown}
 use Rattle.pn_cmd.specs.Points.{IsFree, Excludes}
 use Rattle.pn_cmd.specs.Words.{words}
 use Rattle.pn_cmd.specs.Spaces.{IsSpace, NoSpace, unbuilt_space, workspace}
@@ -33,6 +33,7 @@ use Rattle.pn_cmd.specs.Stores.{projects_of, store}
 use Rattle.pn_cmd.specs.Manifests.{NoManifest, IsProjectManifest, manifest, project_later}
 use Rattle.pn_cmd.specs.Graph.{graph, inputs_of, root}
 use Rattle.pn_cmd.specs.Packages.{listed}
+use Rattle.pn_cmd.specs.Fetches.{fetched, Unfetched}
 use Rattle.pn_cmd.specs.Plans.{planned}
 use Rattle.pn_cmd.specs.Laws.{AreTold, OrderLaw}
 
@@ -55,10 +56,7 @@ stands_law p w y s told ok h = absurd h
 space_at : (t : Tree) (registry : Option Tree) (p : Path) (v : Workspace) (s : Status) → IsSpace (Some t) p v → NoSpace p (record { trees = record { project = Some t; registry = registry } }) s → IsFree s
 space_at t registry p v ProjectFault ok h = tt
 space_at t registry p v (NotYet text) ok h = absurd (none_some text (sym ok.built ∙ ap (unbuilt_space p) (space_answer.value t p v h.1.0 ok.found h.1.1) ∙ h.1.2))
-space_at t registry p v s ok h =
-    let long = space_answer.either t p v h.0 h.2 ok.found h.3 in
-    let past : NoWorkspace (Some t) p (Long long.0) = subst (NoWorkspace (Some t) p) long.1 h.3 in
-    absurd (omega (arith, ok.fits, past.0, past.1))
+space_at t registry p v s ok h = absurd (space_answer.either t p v h.0 h.2 ok.found h.3)
 
 space_law : Excludes workspace AreTold
 space_law p w v s told ok h =
@@ -113,6 +111,18 @@ listed_law k w packages RegistryFault told ok h = tt
 listed_law k w packages s told ok h =
     absurd (listed_passed told.packages k.plain packages h.0 (subst (λ (o : Option Tree). ArePackages o k.plain packages) told.registry ok) (subst (λ (o : Option Tree). IsFirstRefused k.plain o h.0) told.registry h.2))
 
+-- no refusal of the store is settled by trees that are told
+pub fetched_free : (packages : List Package) (w : Shown) (s : Status) → AreTold w → Unfetched packages w s → IsFree s
+fetched_free packages w StoreFault told h = tt
+fetched_free packages w RegistryFault told h = tt
+fetched_free packages w (DigestClash at) told h = tt
+fetched_free packages w (Limit Numbers n) told h = tt
+fetched_free packages w (Limit File n) told h = absurd (none_some told.packages (sym h.1 ∙ told.registry))
+fetched_free packages w s told h = absurd h
+
+fetched_law : Excludes fetched AreTold
+fetched_law k w listings s told ok h = fetched_free k.packages w s told h
+
 -- a tree with nothing in it, since the build's paths are the same whatever the registry has
 nothing : Tree
 nothing q = None
@@ -124,4 +134,4 @@ planned_law k w plan (Limit PathLength n) told ok h =
 planned_law k w plan s told ok h = absurd h
 
 pub order_law : OrderLaw
-order_law = record { words = words_law; workspace = space_law; standing = stands_law; manifest = manifest_law; store = store_law; graph = graph_law; listed = listed_law; planned = planned_law }
+order_law = record { words = words_law; workspace = space_law; standing = stands_law; manifest = manifest_law; store = store_law; graph = graph_law; listed = listed_law; fetched = fetched_law; planned = planned_law }

@@ -1,12 +1,17 @@
 -- Lemmas on points that follow one another.
-use Rattle.std.proofs.Common.{◌≡◌, refl, subst, inl, inr}
+use Rattle.std.proofs.Common.{◌≡◌, ℕ, refl, sym, subst, inl, inr, Option}
 use Rattle.pn_text.specs.Causes.{Rose}
 use Rattle.pn_fs.specs.Seen.{Seen, Taken, Keeps}
+use Rattle.pn_fs.specs.Tree.{Tree}
 use Rattle.pn_fs.proofs.SeenLemmas.{keeps_same, rose_from}
-use Rattle.pn_cmd.specs.declared.status.Status.{Status}
-use Rattle.pn_cmd.specs.declared.status.Status.TheVariants.{Memory, ProjectFault, RegistryFault, SinkFault}
+use Rattle.pn_storecore.specs.Seen.{Seen as Stored}
+use Rattle.pn_store.specs.declared.number.TheConstants.{NUMBERS}
+use Rattle.pn_store.specs.Claims.{AreTaken}
+use Rattle.pn_status.specs.declared.status.Which.TheVariants.{Numbers}
+use Rattle.pn_status.specs.declared.status.Status.{Status}
+use Rattle.pn_status.specs.declared.status.Status.TheVariants.{Memory, Limit, DigestClash, ProjectFault, StoreFault, RegistryFault, SinkFault}
 use Rattle.pn_cmd.specs.World.{World, Shown, AreKept, world, trees_of, shown}
-use Rattle.pn_cmd.specs.Points.{Point, Refuses, then}
+use Rattle.pn_cmd.specs.Points.{Clashed, Point, Refuses, then}
 
 same_trees : (old mid : World) → AreKept old mid → trees_of mid ≡ trees_of old
 same_trees old mid k = λ i. record { project = k.project.tree i; registry = k.registry.tree i }
@@ -18,16 +23,22 @@ same_shown old mid k = λ i. record { trees = same_trees old mid k i }
 pub refuses_from : (C D : Shown → Status → Type 0) (old mid new : World) (s : Status) → AreKept old mid → ((s : Status) → C (shown old) s → D (shown old) s) → Refuses C mid new s → Refuses D old new s
 refuses_from C D old mid new Memory k f h = tt
 refuses_from C D old mid new ProjectFault k f h = (rose_from old.project.faults mid.project.faults new.project.faults k.project.later h.0, f ProjectFault (subst (λ w. C w ProjectFault) (same_shown old mid k) h.1))
+refuses_from C D old mid new StoreFault k f h = (subst (λ (t : Stored). Rose t.faults new.store.faults) k.store h.0, f StoreFault (subst (λ w. C w StoreFault) (same_shown old mid k) h.1))
+refuses_from C D old mid new (DigestClash at) k f h = (
+  subst (λ (r : Option Tree). Clashed r at old.store new.store) k.registry.tree (subst (λ (t : Stored). Clashed mid.registry.tree at t new.store) k.store h.0),
+  f (DigestClash at) (subst (λ w. C w (DigestClash at)) (same_shown old mid k) h.1),
+)
+refuses_from C D old mid new (Limit Numbers n) k f h = (subst (λ (t : Stored). AreTaken NUMBERS t new.store) k.store h.0, f (Limit Numbers n) (subst (λ w. C w (Limit Numbers n)) (same_shown old mid k) h.1))
 refuses_from C D old mid new RegistryFault k f h = (rose_from old.registry.faults mid.registry.faults new.registry.faults k.registry.later h.0, f RegistryFault (subst (λ w. C w RegistryFault) (same_shown old mid k) h.1))
 refuses_from C D old mid new SinkFault k f h = (subst (λ (t : Taken). Rose t.faults new.out.faults) k.out h.0, f SinkFault (subst (λ w. C w SinkFault) (same_shown old mid k) h.1))
 refuses_from C D old mid new s k f h = f s (subst (λ w. C w s) (same_shown old mid k) h)
 
 -- calls of the two trees
-pub kept : (a b c d : Seen) (out : Taken) → Keeps a b → Keeps c d → AreKept (world a c out) (world b d out)
-kept a b c d out h k = record { project = h; registry = k; out = refl }
+pub kept : (a b c d : Seen) (store : Stored) (out : Taken) → Keeps a b → Keeps c d → AreKept (world a c store out) (world b d store out)
+kept a b c d store out h k = record { project = h; registry = k; store = refl; out = refl }
 
 pub kept_none : (w : World) → AreKept w w
-kept_none w = record { project = keeps_same w.project; registry = keeps_same w.registry; out = refl }
+kept_none w = record { project = keeps_same w.project; registry = keeps_same w.registry; store = refl; out = refl }
 
 -- the first point refuses
 pub first_refuses : {X Y Z : Type 0} (p : Point X Y) (q : Point Y Z) (x : X) (old new : World) (s : Status) → Refuses (p.Cause x) old new s → Refuses ((then p q).Cause x) old new s

@@ -1,7 +1,8 @@
 -- Lemmas on points that answer alike.
 use Rattle.std.proofs.Common.{◌≡◌, sym, subst, inl, inr}
-use Rattle.pn_cmd.specs.declared.status.Status.{Status}
-use Rattle.pn_cmd.specs.declared.status.Status.TheVariants.{Memory, ProjectFault, RegistryFault, SinkFault}
+use Rattle.pn_status.specs.declared.status.Which.TheVariants.{Numbers}
+use Rattle.pn_status.specs.declared.status.Status.{Status}
+use Rattle.pn_status.specs.declared.status.Status.TheVariants.{Memory, Limit, DigestClash, ProjectFault, StoreFault, RegistryFault, SinkFault}
 use Rattle.pn_cmd.specs.World.{Shown}
 use Rattle.pn_cmd.specs.Points.{Point, then, step, IsFree}
 use Rattle.pn_cmd.specs.Laws.{IsOwn}
@@ -16,6 +17,9 @@ pub record IsSettled {X Y : Type 0} (w : Shown) (R : X → X → Type 0) (S : Y 
 pub own_free : {C : Type 0} (s : Status) → IsOwn s → IsFree s → C
 own_free Memory o f = absurd o
 own_free ProjectFault o f = absurd o
+own_free StoreFault o f = absurd o
+own_free (DigestClash at) o f = absurd o
+own_free (Limit Numbers n) o f = absurd o
 own_free RegistryFault o f = absurd o
 own_free SinkFault o f = absurd o
 own_free s o f = absurd f

@@ -8,8 +8,8 @@ use Rattle.pn_fs.specs.Calls.{kind_of}
 use Rattle.pn_fs.specs.declared.kind.Kind.{Kind}
 use Rattle.pn_fs.specs.declared.kind.Kind.TheVariants.{Absent}
 use Rattle.pn_fs.proofs.Puts.{is_absent}
-use Rattle.pn_cmd.specs.declared.status.Status.{Status}
-use Rattle.pn_cmd.specs.declared.status.Status.TheVariants.{Memory, NotYet}
+use Rattle.pn_status.specs.declared.status.Status.{Status}
+use Rattle.pn_status.specs.declared.status.Status.TheVariants.{Memory, NotYet}
 use Rattle.pn_cmd.specs.World.{World}
 use Rattle.pn_cmd.specs.Points.{Refuses}
 use Rattle.pn_cmd.specs.Standing.{NothingStands, Stands, IsStood}

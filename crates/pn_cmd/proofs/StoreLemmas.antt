@@ -6,9 +6,9 @@ use Rattle.pn_text.proofs.Paths.{same_path-Decides, same_path_refl}
 use Rattle.pn_workspace.specs.Stores.{IsPlaced, NoPlace, default_store}
 use Rattle.pn_workspace.specs.declared.fault.StoreFault.TheVariants.{Misplaced}
 use Rattle.pn_workspace.specs.declared.fault.WorkspaceWhy.TheVariants.{BadKey}
-use Rattle.pn_cmd.specs.declared.status.FileWhy.TheVariants.{Workspace as of_workspace}
-use Rattle.pn_cmd.specs.declared.status.Status.{Status}
-use Rattle.pn_cmd.specs.declared.status.Status.TheVariants.{Memory, Manifest as BadManifest, NotYet}
+use Rattle.pn_status.specs.declared.status.FileWhy.TheVariants.{Workspace as of_workspace}
+use Rattle.pn_status.specs.declared.status.Status.{Status}
+use Rattle.pn_status.specs.declared.status.Status.TheVariants.{Memory, Manifest as BadManifest, NotYet}
 use Rattle.pn_cmd.specs.Known.{Space}
 use Rattle.pn_cmd.specs.Points.{Refuses}
 use Rattle.pn_cmd.specs.Stores.{Displaces, IsDefault, NoDefault, projects_of, store_key}

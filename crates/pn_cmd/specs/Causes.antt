@@ -2,12 +2,15 @@
 use Rattle.std.specs.Prelude.{◌≡◌, ◌+◌, ◌⊎◌, None}
 use Rattle.pn_text.specs.declared.limits.TheConstants.{FILE_LIMIT}
 use Rattle.pn_text.specs.Causes.{Rose}
-use Rattle.pn_cmd.specs.declared.status.Which.TheVariants.{Packages, File, Text, Path as PathLength, Entries}
-use Rattle.pn_cmd.specs.declared.status.Status.{Status}
-use Rattle.pn_cmd.specs.declared.status.Status.TheVariants.{Done, Memory, Usage, Manifest as BadManifest, NoVersion, Unsupported, Limit, Bundled, ProjectFault, RegistryFault, SinkFault, NotYet}
+use Rattle.pn_status.specs.declared.status.Which.TheVariants.{Packages, File, Text, Path as PathLength, Entries, Numbers}
+use Rattle.pn_status.specs.declared.status.Status.{Status}
+use Rattle.pn_status.specs.declared.status.Status.TheVariants.{Done, Memory, Usage, Manifest as BadManifest, NoVersion, Unsupported, Limit, Bundled, DigestClash, ProjectFault, StoreFault, RegistryFault, SinkFault, NotYet}
+use Rattle.pn_store.specs.declared.number.TheConstants.{NUMBERS}
+use Rattle.pn_store.specs.Claims.{AreTaken}
 use Rattle.pn_cmd.specs.World.{World, Inputs, Shown, shown, trees_of}
+use Rattle.pn_cmd.specs.Points.{Clashed}
 use Rattle.pn_cmd.specs.Known.{Build}
-use Rattle.pn_cmd.specs.Chain.{words_at, workspace_at, manifest_at, store_at, lock_at, graph_at, modules_at, listed_at, planned_at, install, to_workspace, to_manifest, to_store, to_lock, to_graph, to_modules, to_listed, After}
+use Rattle.pn_cmd.specs.Chain.{words_at, workspace_at, manifest_at, store_at, lock_at, graph_at, modules_at, listed_at, fetched_at, planned_at, gathered, install, to_workspace, to_manifest, to_store, to_lock, to_graph, to_modules, to_fetched, After}
 use Rattle.pn_cmd.specs.Endings.{IsDone}
 
 -- There is no workspace, or something of it isn't built yet.
@@ -35,9 +38,13 @@ IsUngraphed i w s = After to_lock i w.trees (λ k. graph_at.Cause k w s)
 abbrev pub IsUnlisted : Inputs → Shown → Status → Type 0
 IsUnlisted i w s = After to_modules i w.trees (λ k. listed_at.Cause k w s)
 
+-- The packages' files aren't in the store.
+abbrev pub IsUnfetched : Inputs → Shown → Status → Type 0
+IsUnfetched i w s = After gathered i w.trees (λ k. fetched_at.Cause k w s)
+
 -- The tree can't be planned.
 abbrev pub IsUnplanned : Inputs → Shown → Status → Type 0
-IsUnplanned i w s = After to_listed i w.trees (λ k. planned_at.Cause k w s)
+IsUnplanned i w s = After to_fetched i w.trees (λ k. planned_at.Cause k w s)
 
 -- what each answer rests on, wherever in the order it came
 abbrev pub CauseOf : Inputs → World → World → Status → Type 0
@@ -62,10 +69,16 @@ CauseOf i old new (Limit PathLength n) =
     ⊎ (IsDisplaced i (shown old) (Limit PathLength n)
     ⊎ (IsKept i (shown old) (Limit PathLength n)
     ⊎ IsUnplanned i (shown old) (Limit PathLength n))))
-CauseOf i old new (Limit File n) = IsUnlisted i (shown old) (Limit File n) ⊎ ((n ≡ FILE_LIMIT + 1) × (old.registry.tree ≡ None))
+CauseOf i old new (Limit File n) =
+    IsUnlisted i (shown old) (Limit File n)
+    ⊎ (IsUnfetched i (shown old) (Limit File n)
+    ⊎ ((n ≡ FILE_LIMIT + 1) × (old.registry.tree ≡ None)))
+CauseOf i old new (Limit Numbers n) = AreTaken NUMBERS old.store new.store × IsUnfetched i (shown old) (Limit Numbers n)
 CauseOf i old new (Limit Entries n) = IsUngraphed i (shown old) (Limit Entries n) ⊎ IsUnlisted i (shown old) (Limit Entries n)
 CauseOf i old new (Bundled id path) = IsUnlisted i (shown old) (Bundled id path)
+CauseOf i old new (DigestClash at) = Clashed old.registry.tree at old.store new.store × IsUnfetched i (shown old) (DigestClash at)
 CauseOf i old new ProjectFault = Rose old.project.faults new.project.faults
+CauseOf i old new StoreFault = Rose old.store.faults new.store.faults × IsUnfetched i (shown old) StoreFault
 CauseOf i old new RegistryFault = Rose old.registry.faults new.registry.faults
 CauseOf i old new SinkFault = Rose old.out.faults new.out.faults × ((b : Build) × install.Finds i (trees_of old) b)
 CauseOf i old new (NotYet text) =

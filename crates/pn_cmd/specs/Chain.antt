@@ -1,11 +1,11 @@
 -- The points of an install in their order.
 use Rattle.std.specs.Prelude.{◌∷◌}
 use Rattle.pn_text.specs.Path.{Path}
-use Rattle.pn_cmd.specs.declared.status.Status.{Status}
+use Rattle.pn_status.specs.declared.status.Status.{Status}
 use Rattle.pn_cmd.specs.World.{Trees, Shown, Inputs}
 use Rattle.pn_cmd.specs.Points.{Point, then, step}
 use Rattle.pn_cmd.specs.Names.{package_name, lock_name, modules_path}
-use Rattle.pn_cmd.specs.Known.{Space, Declared, Project, Graph, Sources, Build, space_of, project_of}
+use Rattle.pn_cmd.specs.Known.{Space, Declared, Project, Graph, Sources, Fetched, Build, space_of, project_of}
 use Rattle.pn_cmd.specs.Words.{words}
 use Rattle.pn_cmd.specs.Standing.{standing}
 use Rattle.pn_cmd.specs.Spaces.{workspace}
@@ -13,6 +13,7 @@ use Rattle.pn_cmd.specs.Manifests.{manifest}
 use Rattle.pn_cmd.specs.Stores.{store}
 use Rattle.pn_cmd.specs.Graph.{graph}
 use Rattle.pn_cmd.specs.Packages.{listed}
+use Rattle.pn_cmd.specs.Fetches.{fetched}
 use Rattle.pn_cmd.specs.Plans.{planned}
 
 -- each point where it stands: what it asks for, and what it adds to what is known
@@ -40,29 +41,40 @@ modules_at = step (λ (k : Graph). modules_path k.project.place) (λ k u. k) sta
 abbrev pub listed_at : Point Graph Sources
 listed_at = step (λ (k : Graph). k) (λ k packages. record { graph = k; packages = packages }) listed
 
-abbrev pub planned_at : Point Sources Build
-planned_at = step (λ (k : Sources). k) (λ k plan. record { sources = k; plan = plan }) planned
+abbrev pub fetched_at : Point Sources Fetched
+fetched_at = step (λ (k : Sources). k) (λ k listings. record { sources = k; listings = listings }) fetched
 
--- from the plain graph on
-abbrev pub tree : Point Graph Build
-tree = then modules_at (then listed_at planned_at)
+abbrev pub planned_at : Point Fetched Build
+planned_at = step (λ (k : Fetched). k.sources) (λ k plan. record { fetched = k; plan = plan }) planned
+
+-- from the plain graph on, to its packages
+abbrev pub tree : Point Graph Sources
+tree = then modules_at listed_at
 
 -- from the lockfile on
-abbrev pub goal : Point Project Build
+abbrev pub goal : Point Project Sources
 goal = then lock_at (then graph_at tree)
 
 -- from the virtual store's place on
-abbrev pub from_store : Point Declared Build
+abbrev pub from_store : Point Declared Sources
 from_store = then store_at goal
 
 -- from the manifest on
-abbrev pub from_manifest : Point Space Build
+abbrev pub from_manifest : Point Space Sources
 from_manifest = then manifest_at from_store
 
--- All points before anything is written: the words, the workspace, the manifest, the virtual store's place, no
--- `pnpm-lock.yaml`, the plain graph, no `node_modules`, the files of its packages, and the tree.
+-- The points that only read the trees: the words, the workspace, the manifest, the virtual store's place, no
+-- `pnpm-lock.yaml`, the plain graph, no `node_modules`, and the files of its packages.
+abbrev pub gathered : Point Inputs Sources
+gathered = then words_at (then workspace_at from_manifest)
+
+-- The points after them: the packages' files and listings in the store, and the tree.
+abbrev pub prepared : Point Sources Build
+prepared = then fetched_at planned_at
+
+-- all points before anything of the project is written
 abbrev pub install : Point Inputs Build
-install = then words_at (then workspace_at from_manifest)
+install = then gathered prepared
 
 -- the points up to one of them
 abbrev pub to_workspace : Point Inputs Space
@@ -83,8 +95,8 @@ to_graph = then to_lock graph_at
 abbrev pub to_modules : Point Inputs Graph
 to_modules = then to_graph modules_at
 
-abbrev pub to_listed : Point Inputs Sources
-to_listed = then to_modules listed_at
+abbrev pub to_fetched : Point Inputs Fetched
+to_fetched = then gathered fetched_at
 
 -- this is so of what is known after these points
 abbrev pub After : {X : Type 0} → Point Inputs X → Inputs → Trees → (X → Type 0) → Type 0
@@ -100,4 +112,5 @@ pub data StandsAt (i : Inputs) (w : Shown) (s : Status) : Type 0 where
   at_graph : After to_lock i w.trees (λ k. graph_at.Cause k w s) → StandsAt i w s
   at_modules : After to_graph i w.trees (λ k. modules_at.Cause k w s) → StandsAt i w s
   at_listed : After to_modules i w.trees (λ k. listed_at.Cause k w s) → StandsAt i w s
-  at_planned : After to_listed i w.trees (λ k. planned_at.Cause k w s) → StandsAt i w s
+  at_fetched : After gathered i w.trees (λ k. fetched_at.Cause k w s) → StandsAt i w s
+  at_planned : After to_fetched i w.trees (λ k. planned_at.Cause k w s) → StandsAt i w s

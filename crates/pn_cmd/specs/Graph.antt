@@ -15,10 +15,10 @@ use Rattle.pn_choice.specs.declared.fault.ChoiceFault.{ChoiceFault}
 use Rattle.pn_choice.specs.declared.fault.ChoiceFault.TheVariants.{Unsupported as FaultUnsupported, Unbuilt as FaultUnbuilt, NoVersion as FaultNoVersion, Registry as FaultRegistry, Packages as FaultPackages, Fault, Memory as NoMemory}
 use Rattle.pn_choice.specs.declared.fault.RegistryLack.{RegistryLack}
 use Rattle.pn_choice.specs.declared.fault.RegistryLack.TheVariants.{BadTags as LackTags, Entries as LackEntries, Wrong as LackManifest, TooLarge as LackText, Unbuilt as LackUnbuilt}
-use Rattle.pn_cmd.specs.declared.status.FileWhy.TheVariants.{Manifest as of_manifest, BadTags}
-use Rattle.pn_cmd.specs.declared.status.Which.TheVariants.{Packages, Text, Entries}
-use Rattle.pn_cmd.specs.declared.status.Status.{Status}
-use Rattle.pn_cmd.specs.declared.status.Status.TheVariants.{Memory, Manifest as BadManifest, NoVersion, Unsupported, Limit, RegistryFault, NotYet}
+use Rattle.pn_status.specs.declared.status.FileWhy.TheVariants.{Manifest as of_manifest, BadTags}
+use Rattle.pn_status.specs.declared.status.Which.TheVariants.{Packages, Text, Entries}
+use Rattle.pn_status.specs.declared.status.Status.{Status}
+use Rattle.pn_status.specs.declared.status.Status.TheVariants.{Memory, Manifest as BadManifest, NoVersion, Unsupported, Limit, RegistryFault, NotYet}
 use Rattle.pn_cmd.specs.World.{Shown}
 use Rattle.pn_cmd.specs.Points.{Point}
 

@@ -4,6 +4,7 @@ use Rattle.pn_text.specs.Path.{Path}
 use Rattle.pn_manifest.specs.Said.{Said}
 use Rattle.pn_graph.specs.declared.plain.Plain.{Plain}
 use Rattle.pn_layout.specs.declared.packages.Package.{Package}
+use Rattle.pn_digest.specs.Listing.{Entry}
 use Rattle.pn_plan.specs.declared.planned.Planned.{Planned}
 use Rattle.pn_workspace.specs.declared.search.Workspace.{Workspace}
 
@@ -32,9 +33,14 @@ pub record Sources : Type 0 where
   pub graph : Graph
   pub packages : List Package
 
+-- their listings, in the packages' order
+pub record Fetched : Type 0 where
+  pub sources : Sources
+  pub listings : List (List Entry)
+
 -- the tree that they make
 pub record Build : Type 0 where
-  pub sources : Sources
+  pub fetched : Fetched
   pub plan : List Planned
 
 abbrev pub space_of : Path → Workspace → Space
@@ -52,5 +58,8 @@ graph_of place said plain = record { project = project_of place said; plain = pl
 abbrev pub sources_of : Path → Said → Plain → List Package → Sources
 sources_of place said plain packages = record { graph = graph_of place said plain; packages = packages }
 
-abbrev pub build_of : Path → Said → Plain → List Package → List Planned → Build
-build_of place said plain packages plan = record { sources = sources_of place said plain packages; plan = plan }
+abbrev pub fetched_of : Path → Said → Plain → List Package → List (List Entry) → Fetched
+fetched_of place said plain packages listings = record { sources = sources_of place said plain packages; listings = listings }
+
+abbrev pub build_of : Path → Said → Plain → List Package → List (List Entry) → List Planned → Build
+build_of place said plain packages listings plan = record { fetched = fetched_of place said plain packages listings; plan = plan }

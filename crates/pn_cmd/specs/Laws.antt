@@ -3,8 +3,9 @@ use Rattle.std.specs.Prelude.{◌≡◌, ◌∷◌, Some}
 use Rattle.serde_json.specs.Data.{Data}
 use Rattle.pn_fs.specs.Tree.{Tree, IsTree}
 use Rattle.pn_manifest.specs.Fields.{said}
-use Rattle.pn_cmd.specs.declared.status.Status.{Status}
-use Rattle.pn_cmd.specs.declared.status.Status.TheVariants.{Done, Memory, ProjectFault, RegistryFault, SinkFault}
+use Rattle.pn_status.specs.declared.status.Which.TheVariants.{Numbers}
+use Rattle.pn_status.specs.declared.status.Status.{Status}
+use Rattle.pn_status.specs.declared.status.Status.TheVariants.{Done, Memory, Limit, DigestClash, ProjectFault, StoreFault, RegistryFault, SinkFault}
 use Rattle.pn_cmd.specs.World.{World, Inputs, Shown}
 use Rattle.pn_cmd.specs.Points.{Excludes}
 use Rattle.pn_cmd.specs.Names.{package_name}
@@ -15,6 +16,7 @@ use Rattle.pn_cmd.specs.Stores.{store}
 use Rattle.pn_cmd.specs.Manifests.{IsManifest, manifest}
 use Rattle.pn_cmd.specs.Graph.{graph}
 use Rattle.pn_cmd.specs.Packages.{listed}
+use Rattle.pn_cmd.specs.Fetches.{fetched}
 use Rattle.pn_cmd.specs.Plans.{planned}
 use Rattle.pn_cmd.specs.Chain.{install, StandsAt}
 use Rattle.pn_cmd.specs.Lookup.{LooksUp}
@@ -49,12 +51,16 @@ pub record OrderLaw : Type 0 where
   pub store : Excludes store AreTold
   pub graph : Excludes graph AreTold
   pub listed : Excludes listed AreTold
+  pub fetched : Excludes fetched AreTold
   pub planned : Excludes planned AreTold
 
--- neither for want of memory nor for a fault
+-- neither for want of memory, nor for a fault, nor for what other steps left in the store
 abbrev pub IsOwn : Status → Type 0
 IsOwn Memory = ⊥
 IsOwn ProjectFault = ⊥
+IsOwn StoreFault = ⊥
+IsOwn (DigestClash at) = ⊥
+IsOwn (Limit Numbers n) = ⊥
 IsOwn RegistryFault = ⊥
 IsOwn SinkFault = ⊥
 IsOwn s = Unit {0}
@@ -70,6 +76,6 @@ pub record EndAlike (old new other now : World) (s v : Status) : Type 0 where
   pub tree : new.project.tree ≡ now.project.tree
   pub out : old.out.bytes ≡ other.out.bytes → new.out.bytes ≡ now.out.bytes
 
--- So do two runs of one start that end neither for want of memory nor for a fault.
+-- So do two runs of one start whose answers the trees settle.
 abbrev pub SettledLaw : Type 0
 SettledLaw = (i : Inputs) (t r : Tree) (old new other now : World) (s v : Status) → IsTree r → Starts t r old → Starts t r other → Ends i old new s → Ends i other now v → IsOwn s → IsOwn v → EndAlike old new other now s v

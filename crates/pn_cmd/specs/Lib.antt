@@ -10,6 +10,7 @@ pub mod Stores
 pub mod Graph
 pub mod Known
 pub mod Packages
+pub mod Fetches
 pub mod Plans
 pub mod Chain
 pub mod Readies
@@ -18,5 +19,3 @@ pub mod Reports
 pub mod Endings
 pub mod Causes
 pub mod Laws
-pub mod Texts
-pub mod Codes

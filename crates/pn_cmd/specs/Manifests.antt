@@ -3,7 +3,7 @@ use Rattle.std.specs.Prelude.{◌≡◌, ◌<◌, ◌≤◌, ℕ, List, length, 
 use Rattle.serde_json.specs.Data.{Data}
 use Rattle.pn_text.specs.declared.limits.TheConstants.{PATH_LIMIT, TEXT_LIMIT}
 use Rattle.pn_text.specs.Path.{Path, path_text}
-use Rattle.pn_fs.specs.Tree.{Entry, file, Tree}
+use Rattle.pn_fs.specs.Tree.{Entry, Tree}
 use Rattle.pn_manifest.specs.Fields.{first_wrong, said}
 use Rattle.pn_manifest.specs.Said.{Said}
 use Rattle.pn_manifest.specs.Text.{IsObjectText}
@@ -14,17 +14,13 @@ use Rattle.pn_read.specs.Small.{IsNoFile, IsFileOf}
 use Rattle.pn_manifest.specs.declared.fault.ManifestWhy.{ManifestWhy}
 use Rattle.pn_manifest.specs.declared.fault.ManifestWhy.TheVariants.{Missing, NotJson, BadField}
 use Rattle.pn_choice.specs.Built.{unbuilt_field}
-use Rattle.pn_cmd.specs.declared.status.FileWhy.TheVariants.{Manifest as of_manifest}
-use Rattle.pn_cmd.specs.declared.status.Which.TheVariants.{Text, Path as PathLength}
-use Rattle.pn_cmd.specs.declared.status.Status.{Status}
-use Rattle.pn_cmd.specs.declared.status.Status.TheVariants.{Memory, Manifest as BadManifest, Limit, ProjectFault, NotYet}
+use Rattle.pn_workspace.specs.Contents.{IsText}
+use Rattle.pn_status.specs.declared.status.FileWhy.TheVariants.{Manifest as of_manifest}
+use Rattle.pn_status.specs.declared.status.Which.TheVariants.{Text, Path as PathLength}
+use Rattle.pn_status.specs.declared.status.Status.{Status}
+use Rattle.pn_status.specs.declared.status.Status.TheVariants.{Memory, Manifest as BadManifest, Limit, ProjectFault, NotYet}
 use Rattle.pn_cmd.specs.World.{Shown}
 use Rattle.pn_cmd.specs.Points.{Point}
-
--- a file of these bytes, within the limit
-pub record IsText (e : Option Entry) (bytes : List ℕ) : Type 0 where
-  pub is : e ≡ Some (file bytes)
-  pub short : length bytes ≤ TEXT_LIMIT
 
 -- the file is the text of an object in which nothing is wrong
 pub record IsManifest (e : Option Entry) (d : Data) : Type 0 where

@@ -7,9 +7,9 @@ use Rattle.pn_collect.specs.CollectFaults.{IsFirstRefused}
 use Rattle.pn_collect.specs.Packages.{ArePackages}
 use Rattle.pn_collect.specs.declared.fault.CollectFault.{CollectFault}
 use Rattle.pn_collect.specs.declared.fault.CollectFault.TheVariants.{Modules, TooLarge, Entries as FaultEntries, Fault, Memory as NoMemory}
-use Rattle.pn_cmd.specs.declared.status.Which.TheVariants.{File, Entries}
-use Rattle.pn_cmd.specs.declared.status.Status.{Status}
-use Rattle.pn_cmd.specs.declared.status.Status.TheVariants.{Memory, Limit, Bundled, RegistryFault}
+use Rattle.pn_status.specs.declared.status.Which.TheVariants.{File, Entries}
+use Rattle.pn_status.specs.declared.status.Status.{Status}
+use Rattle.pn_status.specs.declared.status.Status.TheVariants.{Memory, Limit, Bundled, RegistryFault}
 use Rattle.pn_cmd.specs.World.{Shown}
 use Rattle.pn_cmd.specs.Points.{Point}
 use Rattle.pn_cmd.specs.Known.{Graph}

@@ -13,9 +13,9 @@ use Rattle.pn_layout.specs.Layout.{plan_of, IsLaidOut, IsClosed}
 use Rattle.pn_layout.specs.Refusals.{LayoutRefused}
 use Rattle.pn_layout.specs.Sound.{FilesStand}
 use Rattle.pn_cmd.specs.Names.{modules_path}
-use Rattle.pn_cmd.specs.declared.status.Which.TheVariants.{Path as PathLength}
-use Rattle.pn_cmd.specs.declared.status.Status.{Status}
-use Rattle.pn_cmd.specs.declared.status.Status.TheVariants.{Limit}
+use Rattle.pn_status.specs.declared.status.Which.TheVariants.{Path as PathLength}
+use Rattle.pn_status.specs.declared.status.Status.{Status}
+use Rattle.pn_status.specs.declared.status.Status.TheVariants.{Limit}
 use Rattle.pn_cmd.specs.World.{Shown}
 use Rattle.pn_cmd.specs.Points.{Point}
 use Rattle.pn_cmd.specs.Known.{Sources}

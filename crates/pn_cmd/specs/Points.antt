@@ -1,8 +1,17 @@
 -- Points of a run, and how they follow one another.
-use Rattle.std.specs.Prelude.{◌≡◌, ◌⊎◌, Bool, true, false}
+use Rattle.std.specs.Prelude.{◌≡◌, ◌≢◌, ◌⊎◌, ℕ, List, Option, Some, IfSome, Bool, true, false}
+use Rattle.sha2.specs.Sha512.{sha512}
 use Rattle.pn_text.specs.Causes.{Rose}
-use Rattle.pn_cmd.specs.declared.status.Status.{Status}
-use Rattle.pn_cmd.specs.declared.status.Status.TheVariants.{Memory, ProjectFault, RegistryFault, SinkFault}
+use Rattle.pn_text.specs.Path.{Path}
+use Rattle.pn_fs.specs.Tree.{Tree, file}
+use Rattle.pn_storecore.specs.declared.step.Place.TheVariants.{Files}
+use Rattle.pn_storecore.specs.Seen.{Seen as Stored}
+use Rattle.pn_store.specs.declared.number.TheConstants.{NUMBERS}
+use Rattle.pn_store.specs.Claims.{AreTaken}
+use Rattle.pn_store.specs.Reads.{StoodThere}
+use Rattle.pn_status.specs.declared.status.Which.TheVariants.{Numbers}
+use Rattle.pn_status.specs.declared.status.Status.{Status}
+use Rattle.pn_status.specs.declared.status.Status.TheVariants.{Memory, Limit, DigestClash, ProjectFault, StoreFault, RegistryFault, SinkFault}
 use Rattle.pn_cmd.specs.World.{World, Trees, Shown, shown}
 
 -- What is found at a point, from what is known before it, and why it refuses. A point that asks a device has a cause
@@ -11,11 +20,26 @@ pub record Point (X Y : Type 0) : Type 1 where
   pub Finds : X → Trees → Y → Type 0
   pub Cause : X → Shown → Status → Type 0
 
+-- Two byte lists have this digest: one stood in the store at it at a step between, the other is a file's of the registry;
+-- where the registry is told they differ.
+pub record Clashed (registry : Option Tree) (at : List ℕ) (old new : Stored) : Type 0 where
+  pub path : Path
+  pub stored : List ℕ
+  pub own : List ℕ
+  pub first : sha512 stored ≡ at
+  pub second : sha512 own ≡ at
+  pub source : IfSome registry (λ r. (r path ≡ Some (file own)) × (stored ≢ own))
+  pub stood : StoodThere Files at stored old new
+
 -- What a refusal rests on, between two states of the outside. Memory is free, and a fault is answered only where that
--- device's count rose.
+-- device's count rose. What only the steps of a shared store show is said here too: a clash of digests, and that each of its
+-- numbers was found taken.
 abbrev pub Refuses : (Shown → Status → Type 0) → World → World → Status → Type 0
 Refuses C old new Memory = Unit {0}
 Refuses C old new ProjectFault = Rose old.project.faults new.project.faults × C (shown old) ProjectFault
+Refuses C old new StoreFault = Rose old.store.faults new.store.faults × C (shown old) StoreFault
+Refuses C old new (DigestClash at) = Clashed old.registry.tree at old.store new.store × C (shown old) (DigestClash at)
+Refuses C old new (Limit Numbers n) = AreTaken NUMBERS old.store new.store × C (shown old) (Limit Numbers n)
 Refuses C old new RegistryFault = Rose old.registry.faults new.registry.faults × C (shown old) RegistryFault
 Refuses C old new SinkFault = Rose old.out.faults new.out.faults × C (shown old) SinkFault
 Refuses C old new s = C (shown old) s
@@ -51,10 +75,13 @@ of_two false A B = B
 abbrev pub by_cases : {X Y : Type 0} → (X → Bool) → Point X Y → Point X Y → Point X Y
 by_cases test p q = record { Finds = λ x t y. of_two (test x) (p.Finds x t y) (q.Finds x t y); Cause = λ x w s. of_two (test x) (p.Cause x w s) (q.Cause x w s) }
 
--- answers that need no cause of their own
+-- answers that the trees don't settle
 abbrev pub IsFree : Status → Type 0
 IsFree Memory = Unit {0}
 IsFree ProjectFault = Unit {0}
+IsFree StoreFault = Unit {0}
+IsFree (DigestClash at) = Unit {0}
+IsFree (Limit Numbers n) = Unit {0}
 IsFree RegistryFault = Unit {0}
 IsFree SinkFault = Unit {0}
 IsFree s = ⊥

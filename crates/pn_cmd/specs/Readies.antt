@@ -1,29 +1,42 @@
--- What is about to be written.
+-- What is gathered before anything is written.
+use Rattle.std.specs.Prelude.{◌≡◌}
 use Rattle.pn_text.specs.Path.{Path}
 use Rattle.pn_manifest.specs.Said.{Said}
 use Rattle.pn_graph.specs.declared.plain.Plain.{Plain}
-use Rattle.pn_cmd.specs.declared.ready.Ready.{Ready}
+use Rattle.pn_collect.specs.Outline.{direct_of}
+use Rattle.pn_cmd.specs.declared.ready.Gathered.{Gathered}
 use Rattle.pn_cmd.specs.World.{Trees, Inputs}
 use Rattle.pn_workspace.specs.declared.search.Workspace.{Workspace}
-use Rattle.pn_cmd.specs.Known.{space_of, declared_of, project_of, graph_of, build_of}
-use Rattle.pn_cmd.specs.Chain.{tree, goal, from_store, from_manifest, install}
+use Rattle.pn_cmd.specs.Known.{space_of, declared_of, project_of, graph_of, sources_of}
+use Rattle.pn_cmd.specs.Chain.{tree, goal, from_store, from_manifest, gathered}
 
--- It is the build that the points find, from the plain graph on.
-abbrev pub IsTreeReady : Path → Said → Plain → Trees → Ready → Type 0
-IsTreeReady place said plain t ready = tree.Finds (graph_of place said plain) t (build_of place said plain ready.packages.items ready.plan)
+-- The packages are those that the points find, from the plain graph on, and the links are the project's.
+pub record IsTreeReady (place : Path) (said : Said) (plain : Plain) (t : Trees) (all : Gathered) : Type 0 where
+  pub direct : all.direct ≡ direct_of plain
+  pub finds : tree.Finds (graph_of place said plain) t (sources_of place said plain all.packages.items)
 
 -- the same from the lockfile on
-abbrev pub IsGoalReady : Path → Said → Trees → Ready → Type 0
-IsGoalReady place said t ready = (plain : Plain) × goal.Finds (project_of place said) t (build_of place said plain ready.packages.items ready.plan)
-
--- the same from the manifest on
-abbrev pub IsSpaceReady : Path → Workspace → Trees → Ready → Type 0
-IsSpaceReady place w t ready = (said : Said) × (plain : Plain) × from_manifest.Finds (space_of place w) t (build_of place said plain ready.packages.items ready.plan)
+pub record IsGoalReady (place : Path) (said : Said) (t : Trees) (all : Gathered) : Type 0 where
+  pub plain : Plain
+  pub direct : all.direct ≡ direct_of plain
+  pub finds : goal.Finds (project_of place said) t (sources_of place said plain all.packages.items)
 
 -- the same from the virtual store's place on
-abbrev pub IsDeclaredReady : Path → Workspace → Said → Trees → Ready → Type 0
-IsDeclaredReady place w said t ready = (plain : Plain) × from_store.Finds (declared_of place w said) t (build_of place said plain ready.packages.items ready.plan)
+pub record IsDeclaredReady (place : Path) (w : Workspace) (said : Said) (t : Trees) (all : Gathered) : Type 0 where
+  pub plain : Plain
+  pub direct : all.direct ≡ direct_of plain
+  pub finds : from_store.Finds (declared_of place w said) t (sources_of place said plain all.packages.items)
 
--- the same of all points
-abbrev pub IsReady : Inputs → Trees → Ready → Type 0
-IsReady i t ready = (said : Said) × (plain : Plain) × install.Finds i t (build_of i.place said plain ready.packages.items ready.plan)
+-- the same from the manifest on
+pub record IsSpaceReady (place : Path) (w : Workspace) (t : Trees) (all : Gathered) : Type 0 where
+  pub said : Said
+  pub plain : Plain
+  pub direct : all.direct ≡ direct_of plain
+  pub finds : from_manifest.Finds (space_of place w) t (sources_of place said plain all.packages.items)
+
+-- the same from the start on
+pub record IsGathered (i : Inputs) (t : Trees) (all : Gathered) : Type 0 where
+  pub said : Said
+  pub plain : Plain
+  pub direct : all.direct ≡ direct_of plain
+  pub finds : gathered.Finds i t (sources_of i.place said plain all.packages.items)

@@ -1,12 +1,12 @@
 -- The report of an install.
-use Rattle.std.specs.Prelude.{◌≡◌, ◌⊎◌, ◌≤◌, ℕ, List, ◌++◌, codes, length, take}
+use Rattle.std.specs.Prelude.{ℕ, List, ◌++◌, codes, length}
 use Rattle.std.specs.Fmt.{decimal}
-use Rattle.pn_text.specs.Causes.{Rose, count_after}
+use Rattle.pn_text.specs.Causes.{Rose}
 use Rattle.pn_fs.specs.Seen.{Taken}
-use Rattle.pn_fs.specs.Takes.{told_more}
+use Rattle.pn_status.specs.Told.{TookAll, TookSome}
 use Rattle.pn_layout.specs.declared.packages.Package.{Package}
-use Rattle.pn_cmd.specs.declared.status.Status.{Status}
-use Rattle.pn_cmd.specs.declared.status.Status.TheVariants.{Done, Memory, SinkFault}
+use Rattle.pn_status.specs.declared.status.Status.{Status}
+use Rattle.pn_status.specs.declared.status.Status.TheVariants.{Done, Memory, SinkFault}
 
 -- one project, and so many packages with an instance each
 abbrev pub report_of : ℕ → List ℕ
@@ -14,16 +14,6 @@ report_of n = codes "projects 1\npackages " ++ decimal n ++ codes "\ninstances "
 
 abbrev pub report : List Package → List ℕ
 report packages = report_of (length packages)
-
--- The sink was asked once, and took the text.
-pub record TookAll (text : List ℕ) (old new : Taken) : Type 0 where
-  pub asked : new.calls ≡ count_after old.calls
-  pub all : new.bytes ≡ told_more old.bytes text
-
--- The sink was asked once, and took a front of the text or nothing.
-pub record TookSome (text : List ℕ) (old new : Taken) : Type 0 where
-  pub asked : new.calls ≡ count_after old.calls
-  pub front : (new.bytes ≡ old.bytes) ⊎ ((k : ℕ) × (k ≤ length text) × (new.bytes ≡ told_more old.bytes (take k text)))
 
 -- The report was taken, or it was refused for want of memory or for a fault of the output.
 abbrev pub Reported : List ℕ → Taken → Taken → Status → Type 0

@@ -11,10 +11,10 @@ use Rattle.pn_workspace.specs.Workspaces.{Fits, IsWorkspace, NoWorkspace}
 use Rattle.pn_workspace.specs.declared.fault.WorkspaceFault.{WorkspaceFault}
 use Rattle.pn_workspace.specs.declared.fault.WorkspaceFault.TheVariants.{Long, TooLarge, Wrong, Fault, Memory as NoMemory}
 use Rattle.pn_workspace.specs.declared.search.Workspace.{Workspace}
-use Rattle.pn_cmd.specs.declared.status.FileWhy.TheVariants.{Workspace as of_workspace}
-use Rattle.pn_cmd.specs.declared.status.Which.TheVariants.{Text, Path as PathLength}
-use Rattle.pn_cmd.specs.declared.status.Status.{Status}
-use Rattle.pn_cmd.specs.declared.status.Status.TheVariants.{Memory, Manifest as BadManifest, Limit, ProjectFault, NotYet}
+use Rattle.pn_status.specs.declared.status.FileWhy.TheVariants.{Workspace as of_workspace}
+use Rattle.pn_status.specs.declared.status.Which.TheVariants.{Text, Path as PathLength}
+use Rattle.pn_status.specs.declared.status.Status.{Status}
+use Rattle.pn_status.specs.declared.status.Status.TheVariants.{Memory, Manifest as BadManifest, Limit, ProjectFault, NotYet}
 use Rattle.pn_cmd.specs.Points.{Point}
 use Rattle.pn_cmd.specs.World.{Shown}
 

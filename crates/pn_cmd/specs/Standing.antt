@@ -5,9 +5,9 @@ use Rattle.pn_text.specs.Path.{Path, path_text}
 use Rattle.pn_fs.specs.Tree.{Tree}
 use Rattle.pn_fs.specs.declared.kind.Kind.{Kind}
 use Rattle.pn_fs.specs.declared.kind.Kind.TheVariants.{Absent}
-use Rattle.pn_cmd.specs.declared.status.Which.TheVariants.{Path as PathLength}
-use Rattle.pn_cmd.specs.declared.status.Status.{Status}
-use Rattle.pn_cmd.specs.declared.status.Status.TheVariants.{Memory, Limit, ProjectFault, NotYet}
+use Rattle.pn_status.specs.declared.status.Which.TheVariants.{Path as PathLength}
+use Rattle.pn_status.specs.declared.status.Status.{Status}
+use Rattle.pn_status.specs.declared.status.Status.TheVariants.{Memory, Limit, ProjectFault, NotYet}
 use Rattle.pn_cmd.specs.World.{Shown}
 use Rattle.pn_cmd.specs.Points.{Point}
 

@@ -6,10 +6,10 @@ use Rattle.pn_workspace.specs.Roots.{settings_path}
 use Rattle.pn_workspace.specs.Stores.{IsPlaced, NoPlace, default_store}
 use Rattle.pn_workspace.specs.declared.fault.StoreFault.TheVariants.{Long, Misplaced}
 use Rattle.pn_workspace.specs.declared.fault.WorkspaceWhy.TheVariants.{BadKey}
-use Rattle.pn_cmd.specs.declared.status.FileWhy.TheVariants.{Workspace as of_workspace}
-use Rattle.pn_cmd.specs.declared.status.Which.TheVariants.{Path as PathLength}
-use Rattle.pn_cmd.specs.declared.status.Status.{Status}
-use Rattle.pn_cmd.specs.declared.status.Status.TheVariants.{Memory, Manifest as BadManifest, Limit, NotYet}
+use Rattle.pn_status.specs.declared.status.FileWhy.TheVariants.{Workspace as of_workspace}
+use Rattle.pn_status.specs.declared.status.Which.TheVariants.{Path as PathLength}
+use Rattle.pn_status.specs.declared.status.Status.{Status}
+use Rattle.pn_status.specs.declared.status.Status.TheVariants.{Memory, Manifest as BadManifest, Limit, NotYet}
 use Rattle.pn_cmd.specs.Known.{Space}
 use Rattle.pn_cmd.specs.Points.{Point}
 use Rattle.pn_cmd.specs.World.{Shown}

@@ -3,15 +3,17 @@ use Rattle.std.specs.Prelude.{◌≡◌, ℕ, List, Option}
 use Rattle.pn_text.specs.Path.{Path}
 use Rattle.pn_fs.specs.Tree.{Tree}
 use Rattle.pn_fs.specs.Seen.{Seen, Taken, Keeps}
+use Rattle.pn_storecore.specs.Seen.{Seen as Stored}
 
 -- all that a run's answer speaks of: a field for each device
 pub record World : Type 0 where
   pub project : Seen
   pub registry : Seen
+  pub store : Stored
   pub out : Taken
 
-abbrev pub world : Seen → Seen → Taken → World
-world project registry out = record { project = project; registry = registry; out = out }
+abbrev pub world : Seen → Seen → Stored → Taken → World
+world project registry store out = record { project = project; registry = registry; store = store; out = out }
 
 -- what the points of a run read
 pub record Trees : Type 0 where
@@ -31,10 +33,11 @@ pub record Shown : Type 0 where
 abbrev pub shown : World → Shown
 shown old = record { trees = trees_of old }
 
--- Calls that only read the trees, and leave the output alone.
+-- Calls that only read the trees, and leave the store and the output alone.
 pub record AreKept (old new : World) : Type 0 where
   pub project : Keeps old.project new.project
   pub registry : Keeps old.registry new.registry
+  pub store : new.store ≡ old.store
   pub out : new.out ≡ old.out
 
 -- what a run is handed besides

@@ -2,7 +2,9 @@
 
 use crate::run;
 use pn_fs::{Body, Fs, Kind, ReadFs, Sink, SureFs, SureSink, try_make};
+use pn_memstore::SureStore;
 use pn_read::read_small;
+use pn_storecore::StoreDisk;
 use pn_text::AbsPath;
 use std::alloc::Global;
 use std::test::Fail;
@@ -61,7 +63,7 @@ pub fn run_over(
     })
 }
 
-/// Runs words in a folder, and answers the status.
+/// Runs words in a folder over a store of its own, and answers the status.
 pub fn run_in<P: Fs, R: ReadFs, O: Sink, E: Sink>(
     alloc: Global,
     place: &str,
@@ -71,9 +73,33 @@ pub fn run_in<P: Fs, R: ReadFs, O: Sink, E: Sink>(
     out: &mut O,
     err: &mut E,
 ) -> Result<u8, Fail> {
+    let mut store = SureStore::new(alloc, 1);
+    run_on(alloc, place, words, project, registry, &mut store, out, err)
+}
+
+/// The same over a store.
+pub fn run_on<P: Fs, R: ReadFs, D: StoreDisk, O: Sink, E: Sink>(
+    alloc: Global,
+    place: &str,
+    words: &str,
+    project: &mut P,
+    registry: &mut R,
+    store: &mut D,
+    out: &mut O,
+    err: &mut E,
+) -> Result<u8, Fail> {
     let place = AbsPath::read(alloc, place)?;
     let words = words_of(alloc, words)?;
-    let status = run(alloc, words.as_slice(), &place, project, registry, out, err);
+    let status = run(
+        alloc,
+        words.as_slice(),
+        &place,
+        project,
+        registry,
+        store,
+        out,
+        err,
+    );
     Ok(status.code())
 }
 

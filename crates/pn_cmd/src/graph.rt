@@ -8,16 +8,17 @@ ghost use Rattle.pn_published.specs.Shelves.{tags_path};
 ghost use Rattle.pn_registry.specs.Places.{manifest_path};
 ghost use Rattle.pn_choice.specs.Graphs.{IsGraphOf};
 ghost use Rattle.pn_choice.specs.declared.fault.RegistryLack.TheVariants.{BadTags as LackTags, Wrong as LackManifest};
+ghost use Rattle.pn_storecore.specs.Seen.{Seen as Stored};
 ghost use Rattle.pn_cmd.specs.World.{world};
 ghost use Rattle.pn_cmd.specs.Points.{Refuses};
 ghost use Rattle.pn_collect.specs.Packages.{AreShort, FoldersStand};
 ghost use Rattle.pn_cmd.specs.Graph.{HasNoGraph, inputs_of, root, registry_text, lack_status, choice_status};
 
-use crate::status::{FileWhy, Status, Which};
 use pn_choice::{ChoiceFault, ProjectAt, RegistryLack, Sources, no_shelves, plain};
 use pn_fs::ReadFs;
 use pn_graph::Plain;
 use pn_manifest::{Manifest, ManifestWhy};
+use pn_status::{FileWhy, Status, Which};
 use pn_text::{ENTRY_LIMIT, Memory, PkgId, PkgName, ProjIx, Text};
 use std::alloc::{AllocError, Global};
 
@@ -31,7 +32,7 @@ pub fn graph<R: ReadFs>(
     ensures graph { IfOk result (IsGraphOf (R.seen registry.old).tree (inputs_of (said_of manifest)) root) }
     ensures stand { IfOk result (FoldersStand (R.seen registry.old).tree) }
     ensures short { IfOk result AreShort }
-    ensures refused { (project : Seen) (out : Taken) → IfErr result (Refuses (HasNoGraph (said_of manifest)) (world project (R.seen registry.old) out) (world project (R.seen registry.new) out)) }
+    ensures refused { (project : Seen) (store : Stored) (out : Taken) → IfErr result (Refuses (HasNoGraph (said_of manifest)) (world project (R.seen registry.old) store out) (world project (R.seen registry.new) store out)) }
     ensures kept { Keeps (R.seen registry.old) (R.seen registry.new) }
 {
     let folder = Text::of(alloc, ".")?;

@@ -4,27 +4,27 @@
 //! writing nothing of the project differs; while it is written only what lies in `node_modules` does.
 #![tactic(auto)]
 
-mod check;
 mod entry;
 #[cfg(test)]
 mod fault_tests;
-mod faults;
 #[cfg(test)]
 mod fixtures;
+mod gather;
 mod graph;
 mod laws;
 mod manifest;
 mod packages;
 mod plan;
+mod prepare;
 mod ready;
 #[cfg(test)]
 mod refusal_tests;
 mod standing;
-mod status;
 mod store;
 #[cfg(test)]
+mod store_tests;
+#[cfg(test)]
 mod tests;
-mod text;
 mod top;
 mod words;
 mod workspace;
@@ -32,7 +32,6 @@ mod write;
 
 pub use laws::{cause_law, lookup_law, order_law, point_law, settled_law};
 pub use pn_manifest::ManifestWhy;
+pub use pn_status::{FileWhy, Status, Which, tell};
 pub use pn_workspace::WorkspaceWhy;
-pub use status::{FileWhy, Status, Which};
-pub use text::tell;
 pub use top::run;

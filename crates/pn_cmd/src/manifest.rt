@@ -1,23 +1,25 @@
 // The point of the project's manifest.
-ghost use Rattle.std.specs.Prelude.{◌≡◌, ◌≤◌, ◌∷◌, ℕ, List, length, IfOk, IfErr, IfSome};
-ghost use Rattle.pn_text.specs.declared.limits.TheConstants.{PATH_LIMIT};
+ghost use Rattle.std.specs.Prelude.{◌≡◌, ◌≤◌, ◌+◌, ◌∷◌, ℕ, List, length, IfOk, IfErr, IfSome};
+ghost use Rattle.pn_text.specs.declared.limits.TheConstants.{PATH_LIMIT, TEXT_LIMIT};
 ghost use Rattle.pn_text.specs.Path.{path_text};
-ghost use Rattle.pn_fs.specs.Seen.{Seen, Taken, Keeps};
+ghost use Rattle.pn_fs.specs.Seen.{Seen, Taken, Keeps, GaveAtMost};
 ghost use Rattle.pn_manifest.specs.Refusals.{ManifestRefused};
 ghost use Rattle.pn_manifest.specs.Said.{IsRisingSaid};
 ghost use Rattle.pn_manifest.specs.Says.{said_of};
+ghost use Rattle.pn_workspace.specs.Contents.{IsText};
 ghost use Rattle.pn_cmd.specs.Names.{package_name};
+ghost use Rattle.pn_storecore.specs.Seen.{Seen as Stored};
 ghost use Rattle.pn_cmd.specs.World.{world};
 ghost use Rattle.pn_cmd.specs.Points.{Refuses};
-ghost use Rattle.pn_cmd.specs.Manifests.{NoManifest, Declares, IsText, FoundIn, BytesRefused};
+ghost use Rattle.pn_cmd.specs.Manifests.{NoManifest, Declares, FoundIn, BytesRefused};
 
 use crate::entry::{EntryFault, entry};
-use crate::status::{FileWhy, Status, Which};
 use crate::workspace::not_yet;
 use pn_choice::unbuilt_field;
 use pn_fs::ReadFs;
 use pn_manifest::{Manifest, ManifestFault, ManifestWhy};
 use pn_read::{SmallFault, read_small};
+use pn_status::{FileWhy, Status, Which};
 use pn_text::{AbsPath, TEXT_LIMIT, Text};
 use std::alloc::Global;
 
@@ -29,7 +31,8 @@ pub fn read_manifest<P: ReadFs>(
 ) -> Result<Manifest, Status>
     ensures found { IfOk result (λ m. Declares (P.seen project.old).tree (package_name ∷ folder.now) (said_of m)) }
     ensures rising { IfOk result (λ m. IsRisingSaid (said_of m)) }
-    ensures refused { (registry : Seen) (out : Taken) → IfErr result (Refuses (NoManifest (package_name ∷ folder.now)) (world (P.seen project.old) registry out) (world (P.seen project.new) registry out)) }
+    ensures refused { (registry : Seen) (store : Stored) (out : Taken) → IfErr result (Refuses (NoManifest (package_name ∷ folder.now)) (world (P.seen project.old) registry store out) (world (P.seen project.new) registry store out)) }
+    ensures gave { IfSome (P.seen project.old).tree (λ t. GaveAtMost (P.seen project.old) (TEXT_LIMIT + 1) 0 (P.seen project.new)) }
     ensures kept { Keeps (P.seen project.old) (P.seen project.new) }
 {
     let path = match entry(alloc, folder, "package.json") {
@@ -48,7 +51,8 @@ pub fn read_manifest<P: ReadFs>(
 fn read_text<P: ReadFs>(alloc: Global, path: &AbsPath, project: &mut P) -> Result<Vec<u8>, Status>
     requires { length (path_text path.now) ≤ PATH_LIMIT }
     ensures found { IfOk result (λ v. IfSome (P.seen project.old).tree (λ t. IsText (t path.now) v.items)) }
-    ensures refused { (registry : Seen) (out : Taken) → IfErr result (Refuses (NoManifest path.now) (world (P.seen project.old) registry out) (world (P.seen project.new) registry out)) }
+    ensures refused { (registry : Seen) (store : Stored) (out : Taken) → IfErr result (Refuses (NoManifest path.now) (world (P.seen project.old) registry store out) (world (P.seen project.new) registry store out)) }
+    ensures gave { IfSome (P.seen project.old).tree (λ t. GaveAtMost (P.seen project.old) (TEXT_LIMIT + 1) 0 (P.seen project.new)) }
     ensures kept { Keeps (P.seen project.old) (P.seen project.new) }
 {
     match read_small(alloc, project, path, TEXT_LIMIT) {

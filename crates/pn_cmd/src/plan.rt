@@ -11,9 +11,9 @@ ghost use Rattle.pn_cmd.specs.Known.{sources_of};
 ghost use Rattle.pn_cmd.specs.Plans.{TooLong, IsPlanned};
 ghost use Rattle.pn_cmd.specs.Reports.{report_of};
 
-use crate::status::{Status, Which};
 use pn_layout::{LayoutFault, Links, Package, layout};
 use pn_plan::PlannedTree;
+use pn_status::{Status, Which};
 use pn_text::AbsPath;
 use std::alloc::{AllocError, Global};
 

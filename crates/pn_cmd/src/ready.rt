@@ -1,10 +1,20 @@
-// What is about to be written.
-use pn_layout::Package;
+// What is known before anything of the project is written.
+use pn_digest::Listing;
+use pn_layout::{Links, Package};
 use pn_plan::PlannedTree;
+use pn_text::AbsPath;
 
-/// The packages of an install, and the tree that they make.
+/// What the trees say: the managed folder, the project's links, and the packages, in byte order of ids.
+#[derive(Drop)]
+pub struct Gathered {
+    pub modules: AbsPath,
+    pub direct: Links,
+    pub packages: Vec<Package>,
+}
+
+/// What is about to be written: the listings of the packages, which are in the store, and the tree that they make.
 #[derive(Drop)]
 pub struct Ready {
-    pub packages: Vec<Package>,
+    pub listings: Vec<Listing>,
     pub plan: PlannedTree,
 }

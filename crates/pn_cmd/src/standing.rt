@@ -2,13 +2,14 @@
 ghost use Rattle.std.specs.Prelude.{◌≡◌, ◌∷◌, IsTrue, OnOk, IfOk, IfErr};
 ghost use Rattle.pn_text.specs.Path.{is_part};
 ghost use Rattle.pn_fs.specs.Seen.{Seen, Taken, Keeps};
+ghost use Rattle.pn_storecore.specs.Seen.{Seen as Stored};
 ghost use Rattle.pn_cmd.specs.World.{world};
 ghost use Rattle.pn_cmd.specs.Points.{Refuses};
 ghost use Rattle.pn_cmd.specs.Standing.{NothingStands, Stands, IsStood};
 
 use crate::entry::{EntryFault, entry};
-use crate::status::{Status, Which};
 use pn_fs::{Kind, ReadFs};
+use pn_status::{Status, Which};
 use pn_text::{AbsPath, DevFault, Text};
 use std::alloc::Global;
 
@@ -22,7 +23,7 @@ pub fn nothing_stands<P: ReadFs>(
     requires part { IsTrue (is_part part.now) }
     ensures path { IfOk result (λ p. p ≡ part.now ∷ folder.now) }
     ensures passed { OnOk result (NothingStands (P.seen project.old).tree (part.now ∷ folder.now)) }
-    ensures refused { (registry : Seen) (out : Taken) → IfErr result (Refuses (Stands (part.now ∷ folder.now)) (world (P.seen project.old) registry out) (world (P.seen project.new) registry out)) }
+    ensures refused { (registry : Seen) (store : Stored) (out : Taken) → IfErr result (Refuses (Stands (part.now ∷ folder.now)) (world (P.seen project.old) registry store out) (world (P.seen project.new) registry store out)) }
     ensures kept { Keeps (P.seen project.old) (P.seen project.new) }
 {
     let path = match entry(alloc, folder, part) {

@@ -7,8 +7,8 @@ ghost use Rattle.pn_cmd.specs.Stores.{Displaces, IsDefault, NoDefault};
 ghost use Rattle.pn_workspace.specs.Workspaces.{Fits};
 
 use crate::entry::entry;
-use crate::status::{FileWhy, Status, Which};
 use crate::workspace::not_yet;
+use pn_status::{FileWhy, Status, Which};
 use pn_text::{AbsPath, PATH_LIMIT, Text};
 use pn_workspace::{StoreFault, Workspace, WorkspaceWhy, is_default_store, virtual_store};
 use std::alloc::Global;

@@ -1,15 +1,17 @@
 // The point of the workspace.
-ghost use Rattle.std.specs.Prelude.{◌≡◌, ◌⊎◌, None, IfOk, IfErr, OnOk, option_map};
+ghost use Rattle.std.specs.Prelude.{◌≡◌, ◌⊎◌, ◌+◌, None, IfOk, IfErr, IfSome, OnOk, option_map};
+ghost use Rattle.pn_text.specs.declared.limits.TheConstants.{TEXT_LIMIT};
 ghost use Rattle.pn_text.specs.Path.{path_text};
-ghost use Rattle.pn_fs.specs.Seen.{Seen, Taken, Keeps};
+ghost use Rattle.pn_fs.specs.Seen.{Seen, Taken, Keeps, GaveAtMost};
+ghost use Rattle.pn_storecore.specs.Seen.{Seen as Stored};
 ghost use Rattle.pn_cmd.specs.World.{world};
 ghost use Rattle.pn_cmd.specs.Points.{Refuses};
 ghost use Rattle.pn_cmd.specs.Spaces.{IsSpace, IsUnbuilt, NoSpace, space_status, unbuilt_key, unbuilt_space};
 ghost use Rattle.pn_workspace.specs.declared.fault.WorkspaceFault.TheVariants.{Wrong as FaultWrong};
 
-use crate::status::{FileWhy, Status, Which};
 use pn_config::Config;
 use pn_fs::ReadFs;
+use pn_status::{FileWhy, Status, Which};
 use pn_text::{AbsPath, Text};
 use pn_workspace::{Workspace, WorkspaceFault, WorkspaceWhy, find};
 use std::alloc::Global;
@@ -21,7 +23,8 @@ pub fn workspace<P: ReadFs>(
     project: &mut P,
 ) -> Result<Workspace, Status>
     ensures found { IfOk result (IsSpace (P.seen project.old).tree place.now) }
-    ensures refused { (registry : Seen) (out : Taken) → IfErr result (Refuses (NoSpace place.now) (world (P.seen project.old) registry out) (world (P.seen project.new) registry out)) }
+    ensures refused { (registry : Seen) (store : Stored) (out : Taken) → IfErr result (Refuses (NoSpace place.now) (world (P.seen project.old) registry store out) (world (P.seen project.new) registry store out)) }
+    ensures gave { IfSome (P.seen project.old).tree (λ t. GaveAtMost (P.seen project.old) (TEXT_LIMIT + 1) 0 (P.seen project.new)) }
     ensures kept { Keeps (P.seen project.old) (P.seen project.new) }
 {
     match find(alloc, place, project) {

@@ -4,14 +4,15 @@ ghost use Rattle.std.specs.Option.{ForSome};
 ghost use Rattle.pn_fs.specs.Seen.{Taken, Keeps};
 ghost use Rattle.pn_plan.specs.Plan.{is_planned, IsWritable, IsCopyable};
 ghost use Rattle.pn_plan.specs.Writes.{Writes, DiffersOnly};
+ghost use Rattle.pn_storecore.specs.Seen.{Seen as Stored};
 ghost use Rattle.pn_cmd.specs.World.{world};
 ghost use Rattle.pn_cmd.specs.Points.{Refuses};
 ghost use Rattle.pn_cmd.specs.Endings.{Stops};
 ghost use Rattle.pn_cmd.specs.Reports.{Reported};
 
-use crate::status::{Status, Which};
 use pn_fs::{Fs, ReadFs, Sink};
 use pn_plan::PlannedTree;
+use pn_status::{Status, Which};
 use pn_text::DevFault;
 use pn_writer::{WriteFault, write_plan};
 use std::alloc::Global;
@@ -28,7 +29,7 @@ pub fn write<P: Fs, R: ReadFs>(
     ensures ok { OnOk result (Writes (R.seen registry.old).tree plan.now (P.seen project.old).tree (P.seen project.new).tree) }
     ensures err { OnErr result (DiffersOnly (is_planned plan.now) (P.seen project.old).tree (P.seen project.new).tree) }
     ensures registry { Keeps (R.seen registry.old) (R.seen registry.new) }
-    ensures cause { (out : Taken) → IfErr result (Refuses Stops (world (P.seen project.old) (R.seen registry.old) out) (world (P.seen project.new) (R.seen registry.new) out)) }
+    ensures cause { (store : Stored) (out : Taken) → IfErr result (Refuses Stops (world (P.seen project.old) (R.seen registry.old) store out) (world (P.seen project.new) (R.seen registry.new) store out)) }
 {
     match write_plan(alloc, project, registry, plan) {
         Ok(()) => Ok(()),

@@ -3,9 +3,9 @@
 
 mod places;
 
-use crate::places::{current_folder, registry_folder, words};
+use crate::places::{current_folder, registry_folder, store_folder, words};
 use pn_cmd::{Status, run, tell};
-use pn_real::{RealFs, RealSink};
+use pn_real::{RealFs, RealSink, RealStore};
 use pn_text::AbsPath;
 use std::process::ExitCode;
 
@@ -25,29 +25,43 @@ fn start(rt: HostRuntime) -> Status {
         Ok(place) => place,
         Err(status) => return tell(alloc, status, &mut err),
     };
-    let (root, folder) = match folders(&rt, &place) {
+    let folders = match folders(&rt, &place) {
         Ok(folders) => folders,
         Err(status) => return tell(alloc, status, &mut err),
     };
     let mut out = RealSink::new(rt.stdout());
-    let mut project = RealFs::new(rt, root);
-    let mut registry = RealFs::new(rt, folder);
+    let mut project = RealFs::new(rt, folders.root);
+    let mut registry = RealFs::new(rt, folders.registry);
+    let mut store = RealStore::new(rt, folders.store);
     run(
         alloc,
         words.as_slice(),
         &place,
         &mut project,
         &mut registry,
+        &mut store,
         &mut out,
         &mut err,
     )
 }
 
-// The folders that are `/` of the project's and the registry's file system.
-fn folders(rt: &HostRuntime, place: &AbsPath) -> Result<(AbsPath, AbsPath), Status> {
+// The folders that are `/` of the project's and the registry's file system, and the store's.
+#[derive(Drop)]
+struct Places {
+    root: AbsPath,
+    registry: AbsPath,
+    store: AbsPath,
+}
+
+fn folders(rt: &HostRuntime, place: &AbsPath) -> Result<Places, Status> {
     let Ok(root) = AbsPath::root(rt.alloc()) else {
         return Err(Status::Memory);
     };
-    let folder = registry_folder(rt, place)?;
-    Ok((root, folder))
+    let registry = registry_folder(rt, place)?;
+    let store = store_folder(rt, place)?;
+    Ok(Places {
+        root,
+        registry,
+        store,
+    })
 }

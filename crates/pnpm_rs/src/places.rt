@@ -38,11 +38,43 @@ pub fn registry_folder<R: Env + Files + Alloc<A = Global>>(
     rt: &R,
     place: &AbsPath,
 ) -> Result<AbsPath, Status> {
-    match env::var(rt, "PNPM_RS_REGISTRY") {
-        Ok(text) => named_folder(rt, place, text.as_str()),
-        Err(VarError::NotPresent) => below(rt.alloc(), place, "pnpm-rs-registry"),
+    folder(
+        rt,
+        place,
+        "PNPM_RS_REGISTRY",
+        "pnpm-rs-registry",
+        Status::RegistryFault,
+    )
+}
+
+/// The store's folder: the environment's `PNPM_RS_STORE`, else `pnpm-rs-store` in the current folder. It
+/// needn't stand.
+pub fn store_folder<R: Env + Files + Alloc<A = Global>>(
+    rt: &R,
+    place: &AbsPath,
+) -> Result<AbsPath, Status> {
+    folder(
+        rt,
+        place,
+        "PNPM_RS_STORE",
+        "pnpm-rs-store",
+        Status::StoreFault,
+    )
+}
+
+// The folder that a variable of the environment names, else one in the current folder.
+fn folder<R: Env + Files + Alloc<A = Global>>(
+    rt: &R,
+    place: &AbsPath,
+    variable: &str,
+    name: &str,
+    fault: Status,
+) -> Result<AbsPath, Status> {
+    match env::var(rt, variable) {
+        Ok(text) => named_folder(rt, place, text.as_str(), fault),
+        Err(VarError::NotPresent) => below(rt.alloc(), place, name, fault),
         Err(VarError::OutOfMemory) => Err(Status::Memory),
-        Err(VarError::NotUnicode) => Err(Status::RegistryFault),
+        Err(VarError::NotUnicode) => Err(fault),
     }
 }
 
@@ -51,18 +83,19 @@ fn named_folder<R: Files + Alloc<A = Global>>(
     rt: &R,
     place: &AbsPath,
     text: &str,
+    fault: Status,
 ) -> Result<AbsPath, Status> {
     if let Ok(found) = fs::canonicalize(rt, text) {
-        return read_path(rt.alloc(), found.as_str(), Status::RegistryFault);
+        return read_path(rt.alloc(), found.as_str(), fault);
     }
     if text.starts_with('/') {
-        read_path(rt.alloc(), text, Status::RegistryFault)
+        read_path(rt.alloc(), text, fault)
     } else {
-        below(rt.alloc(), place, text)
+        below(rt.alloc(), place, text, fault)
     }
 }
 
-fn below(alloc: Global, place: &AbsPath, text: &str) -> Result<AbsPath, Status> {
+fn below(alloc: Global, place: &AbsPath, text: &str, fault: Status) -> Result<AbsPath, Status> {
     let Ok(mut path) = String::from_str(alloc, place.as_str()) else {
         return Err(Status::Memory);
     };
@@ -72,7 +105,7 @@ fn below(alloc: Global, place: &AbsPath, text: &str) -> Result<AbsPath, Status> 
     if path.push_str(text).is_err() {
         return Err(Status::Memory);
     }
-    read_path(alloc, path.as_str(), Status::RegistryFault)
+    read_path(alloc, path.as_str(), fault)
 }
 
 fn read_path(alloc: Global, text: &str, fault: Status) -> Result<AbsPath, Status> {

@@ -23,10 +23,10 @@ returns-in-Ok-clause-short g c =
     graph_short (g.R.ReadFs.seen c.args.registry.now).tree (inputs_of (said_of c.args.manifest)) root c.in-Ok.plain is
 
 pub returns-clause-refused : goal.returns-clause-refused
-returns-clause-refused g c project out =
+returns-clause-refused g c project store out =
     let seen = g.R.ReadFs.seen in
     let m = said_of c.args.manifest in
     let refused : ChoiceRefuses (λ r f. Unplain (inputs_of m) r f) (seen c.args.registry.now) (seen c.plain.new.sources.registry.now) c.in-Err.fault = search rules in
     let same : c.plain.new.sources.registry.now ≡ c.registry-1.given.0 = search rules in
-    subst (λ x. Refuses (HasNoGraph m) (world project (seen c.args.registry.now) out) (world project (seen x) out) c.ungraphed.result) same
-    (graph_refused m project (seen c.args.registry.now) (seen c.plain.new.sources.registry.now) out c.in-Err.fault c.ungraphed.result refused c.ungraphed.ensures)
+    subst (λ x. Refuses (HasNoGraph m) (world project (seen c.args.registry.now) store out) (world project (seen x) store out) c.ungraphed.result) same
+    (graph_refused m project (seen c.args.registry.now) (seen c.plain.new.sources.registry.now) store out c.in-Err.fault c.ungraphed.result refused c.ungraphed.ensures)

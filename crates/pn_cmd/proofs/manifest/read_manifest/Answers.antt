@@ -10,11 +10,11 @@ returns-clause-found g c =
     found_ok c.parse.result (g.P.ReadFs.seen c.args.project.now).tree c.in-Ok.path _ c.in-Ok-read_text.bytes.items _ c.in-Ok.ensures.fits c.in-Ok-read_text.ensures.found c.as_slice.ensures.value c.in-Ok.ensures.ok c.parse.ensures.found
 
 pub returns-clause-refused : goal.returns-clause-refused
-returns-clause-refused g c registry out =
+returns-clause-refused g c registry store out =
     let seen = g.P.ReadFs.seen in
-    refused_err c.parse.result (world (seen c.args.project.now) registry out) (world (seen c.read_text.new.project) registry out) c.in-Ok.path _ c.in-Ok-read_text.bytes.items _ c.in-Ok.ensures.fits c.in-Ok-read_text.ensures.found c.as_slice.ensures.value c.in-Ok.ensures.ok c.parse.ensures.refused
+    refused_err c.parse.result (world (seen c.args.project.now) registry store out) (world (seen c.read_text.new.project) registry store out) c.in-Ok.path _ c.in-Ok-read_text.bytes.items _ c.in-Ok.ensures.fits c.in-Ok-read_text.ensures.found c.as_slice.ensures.value c.in-Ok.ensures.ok c.parse.ensures.refused
 
 pub returns-in-Err-clause-refused : goal.returns-in-Err-clause-refused
-returns-in-Err-clause-refused g c registry out =
+returns-in-Err-clause-refused g c registry store out =
     let seen = g.P.ReadFs.seen in
-    subst (λ p. Refuses (NoManifest p) (world (seen c.args.project.now) registry out) (world (seen c.read_text.new.project) registry out) c.in-Err.status) c.in-Ok.ensures.ok (c.in-Err.ensures.refused registry out)
+    subst (λ p. Refuses (NoManifest p) (world (seen c.args.project.now) registry store out) (world (seen c.read_text.new.project) registry store out) c.in-Err.status) c.in-Ok.ensures.ok (c.in-Err.ensures.refused registry store out)

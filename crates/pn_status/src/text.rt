@@ -1,11 +1,13 @@
 // What is told of a status.
 ghost use Rattle.std.specs.Prelude.{◌≡◌, ◌⊎◌, IfOk, string_bytes, codes, true, false, ◌++◌};
 ghost use Rattle.std.specs.Fmt.{decimal};
-ghost use Rattle.pn_cmd.specs.Reports.{TookSome};
+ghost use Rattle.hex.specs.Hex.{encode_lower};
+ghost use Rattle.pn_status.specs.Told.{TookSome};
 ghost use Rattle.pn_yaml.specs.WhyTexts.{why_text as yaml_text};
-ghost use Rattle.pn_cmd.specs.Texts.{status_line, why_text, space_text, file_text, which_text, edge_text, tail_text, TellsLine, Tells, OrMemory};
+ghost use Rattle.pn_status.specs.Texts.{status_line, why_text, space_text, file_text, which_text, edge_text, tail_text, TellsLine, Tells, OrMemory};
 
 use crate::status::{FileWhy, Status, Which};
+use pn_digest::Digest;
 use pn_fs::Sink;
 use pn_manifest::ManifestWhy;
 use pn_text::{DevFault, Edge, RelPath};
@@ -56,7 +58,9 @@ fn line_of(alloc: Global, status: &Status) -> Result<String, AllocError>
         Status::Unsupported(edge) => edge_line(alloc, "pnpm-rs: unsupported: ", " has ", edge),
         Status::Limit(which, count) => limit_line(alloc, *which, *count),
         Status::Bundled(id, path) => bundled_line(alloc, id.as_str(), path),
+        Status::DigestClash(at) => clash_line(alloc, at),
         Status::ProjectFault => String::from_str(alloc, "pnpm-rs: project fault\n"),
+        Status::StoreFault => String::from_str(alloc, "pnpm-rs: store fault\n"),
         Status::RegistryFault => String::from_str(alloc, "pnpm-rs: registry fault\n"),
         Status::SinkFault => String::from_str(alloc, "pnpm-rs: output fault\n"),
         Status::NotYet(text) => {
@@ -182,6 +186,18 @@ fn bundled_line(alloc: Global, id: &str, path: &RelPath) -> Result<String, Alloc
     Ok(line)
 }
 
+fn clash_line(alloc: Global, at: &Digest) -> Result<String, AllocError>
+    ensures { IfOk result (λ s. string_bytes s ≡ codes "pnpm-rs: digest clash: " ++ encode_lower at.now ++ codes "\n") }
+{
+    let Ok(hex) = at.hex(alloc) else {
+        return Err(AllocError);
+    };
+    let mut line = String::from_str(alloc, "pnpm-rs: digest clash: ")?;
+    line.push_str(hex.as_str())?;
+    line.push_str("\n")?;
+    Ok(line)
+}
+
 fn tail(path: &RelPath) -> &str
     ensures { result.now ≡ tail_text path.now }
 {
@@ -197,5 +213,6 @@ fn limit_line(alloc: Global, which: Which, count: u64) -> Result<String, AllocEr
         Which::Text => format!(in alloc; "pnpm-rs: limit: text {count}\n"),
         Which::Path => format!(in alloc; "pnpm-rs: limit: path {count}\n"),
         Which::Entries => format!(in alloc; "pnpm-rs: limit: entries {count}\n"),
+        Which::Numbers => format!(in alloc; "pnpm-rs: limit: numbers {count}\n"),
     }
 }

@@ -1,7 +1,7 @@
 -- The exit status of each way to end.
 use Rattle.std.specs.Prelude.{ℕ}
-use Rattle.pn_cmd.specs.declared.status.Status.{Status}
-use Rattle.pn_cmd.specs.declared.status.Status.TheVariants.{Done, Memory, Usage, Manifest, NoVersion, Unsupported, Limit, Bundled, ProjectFault, RegistryFault, SinkFault, NotYet}
+use Rattle.pn_status.specs.declared.status.Status.{Status}
+use Rattle.pn_status.specs.declared.status.Status.TheVariants.{Done, Memory, Usage, Manifest, NoVersion, Unsupported, Limit, Bundled, DigestClash, ProjectFault, StoreFault, RegistryFault, SinkFault, NotYet}
 
 abbrev pub code_of : Status → ℕ
 code_of Done = 0
@@ -12,7 +12,9 @@ code_of (NoVersion edge) = 6
 code_of (Unsupported edge) = 7
 code_of (Limit which n) = 11
 code_of (Bundled id path) = 13
+code_of (DigestClash at) = 14
 code_of ProjectFault = 20
+code_of StoreFault = 21
 code_of RegistryFault = 22
 code_of SinkFault = 23
 code_of (NotYet text) = 30

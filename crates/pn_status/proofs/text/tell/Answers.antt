@@ -1,6 +1,6 @@
 use Rattle.std.proofs.Common.{refl, inl, inr}
-use Rattle.pn_cmd.specs.declared.status.Status.TheVariants.{Memory}
-use Rattle.pn_cmd.proofs.text.tell.Goals as goal
+use Rattle.pn_status.specs.declared.status.Status.TheVariants.{Memory}
+use Rattle.pn_status.proofs.text.tell.Goals as goal
 
 pub returns-else-tell_line : goal.returns-else-tell_line
 returns-else-tell_line g c = record {

@@ -1,6 +1,7 @@
 -- What is told of a status.
 use Rattle.std.specs.Prelude.{◌≡◌, ◌≢◌, ◌⊎◌, ℕ, List, [], ◌∷◌, ◌++◌, codes}
 use Rattle.std.specs.Fmt.{decimal}
+use Rattle.hex.specs.Hex.{encode_lower}
 use Rattle.pn_text.specs.Causes.{Rose}
 use Rattle.pn_text.specs.declared.ids.Edge.{Edge}
 use Rattle.pn_fs.specs.Seen.{Taken}
@@ -8,16 +9,16 @@ use Rattle.pn_fs.specs.Takes.{told_more}
 use Rattle.pn_text.specs.Path.{Path, text_below}
 use Rattle.pn_manifest.specs.declared.fault.ManifestWhy.{ManifestWhy}
 use Rattle.pn_manifest.specs.declared.fault.ManifestWhy.TheVariants.{Missing, NotJson, BadField}
-use Rattle.pn_cmd.specs.declared.status.Which.{Which}
-use Rattle.pn_cmd.specs.declared.status.Which.TheVariants.{Packages, File, Text, Path as PathLength, Entries}
-use Rattle.pn_cmd.specs.declared.status.FileWhy.{FileWhy}
+use Rattle.pn_status.specs.declared.status.Which.{Which}
+use Rattle.pn_status.specs.declared.status.Which.TheVariants.{Packages, File, Text, Path as PathLength, Entries, Numbers}
+use Rattle.pn_status.specs.declared.status.FileWhy.{FileWhy}
 use Rattle.pn_yaml.specs.WhyTexts.{why_text as yaml_text}
 use Rattle.pn_workspace.specs.declared.fault.WorkspaceWhy.{WorkspaceWhy}
 use Rattle.pn_workspace.specs.declared.fault.WorkspaceWhy.TheVariants.{NotUtf8, TooDeep, Line, BadKey}
-use Rattle.pn_cmd.specs.declared.status.FileWhy.TheVariants.{Manifest as of_manifest, Workspace as of_workspace, BadTags}
-use Rattle.pn_cmd.specs.declared.status.Status.{Status}
-use Rattle.pn_cmd.specs.declared.status.Status.TheVariants.{Done, Memory, Usage, Manifest, NoVersion, Unsupported, Limit, Bundled, ProjectFault, RegistryFault, SinkFault, NotYet}
-use Rattle.pn_cmd.specs.Reports.{TookSome}
+use Rattle.pn_status.specs.declared.status.FileWhy.TheVariants.{Manifest as of_manifest, Workspace as of_workspace, BadTags}
+use Rattle.pn_status.specs.declared.status.Status.{Status}
+use Rattle.pn_status.specs.declared.status.Status.TheVariants.{Done, Memory, Usage, Manifest, NoVersion, Unsupported, Limit, Bundled, DigestClash, ProjectFault, StoreFault, RegistryFault, SinkFault, NotYet}
+use Rattle.pn_status.specs.Told.{TookSome}
 
 abbrev pub why_text : ManifestWhy → List ℕ
 why_text Missing = codes "missing\n"
@@ -42,6 +43,7 @@ which_text File = codes "file "
 which_text Text = codes "text "
 which_text PathLength = codes "path "
 which_text Entries = codes "entries "
+which_text Numbers = codes "numbers "
 
 -- whose dependency, what is said of it, and the dependency
 abbrev pub edge_text : List ℕ → Edge → List ℕ
@@ -65,7 +67,9 @@ status_line (NoVersion edge) = codes "pnpm-rs: no version: " ++ edge_text (codes
 status_line (Unsupported edge) = codes "pnpm-rs: unsupported: " ++ edge_text (codes " has ") edge
 status_line (Limit which n) = codes "pnpm-rs: limit: " ++ which_text which ++ decimal n ++ codes "\n"
 status_line (Bundled id path) = codes "pnpm-rs: bundled: " ++ id ++ codes " " ++ tail_text path ++ codes "\n"
+status_line (DigestClash at) = codes "pnpm-rs: digest clash: " ++ encode_lower at ++ codes "\n"
 status_line ProjectFault = codes "pnpm-rs: project fault\n"
+status_line StoreFault = codes "pnpm-rs: store fault\n"
 status_line RegistryFault = codes "pnpm-rs: registry fault\n"
 status_line SinkFault = codes "pnpm-rs: output fault\n"
 status_line (NotYet text) = codes "pnpm-rs: not yet: " ++ text ++ codes "\n"

@@ -5,7 +5,7 @@ use Rattle.pn_text.specs.Causes.{count_after}
 use Rattle.pn_text.specs.declared.fault.DevFault.{DevFault}
 use Rattle.pn_fs.specs.Seen.{Taken}
 use Rattle.pn_fs.specs.Takes.{Takes, told_more}
-use Rattle.pn_cmd.specs.Reports.{TookSome}
+use Rattle.pn_status.specs.Told.{TookSome}
 
 -- whatever a call answered
 pub took_some : {T : Type 0} (r : Result T DevFault) (text : List ℕ) (old new : Taken) → new.calls ≡ count_after old.calls → Takes old.bytes text new.bytes r → TookSome text old new

@@ -1,6 +1,6 @@
 // What the refusals of lower calls are as a status.
 ghost use Rattle.std.specs.Prelude.{◌≡◌};
-ghost use Rattle.pn_cmd.specs.declared.status.Status.TheVariants.{Memory as no_memory};
+ghost use Rattle.pn_status.specs.declared.status.Status.TheVariants.{Memory as no_memory};
 
 use crate::status::Status;
 use pn_text::Memory;

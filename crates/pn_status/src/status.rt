@@ -1,7 +1,8 @@
 // How a run ends.
 ghost use Rattle.std.specs.Prelude.{◌≡◌};
-ghost use Rattle.pn_cmd.specs.Codes.{code_of};
+ghost use Rattle.pn_status.specs.Codes.{code_of};
 
+use pn_digest::Digest;
 use pn_manifest::ManifestWhy;
 use pn_text::{Edge, PkgId, RelPath, Text};
 use pn_workspace::WorkspaceWhy;
@@ -27,7 +28,7 @@ pub enum Status {
     Memory,
     /// The words are no command's.
     Usage,
-    /// The named file isn't in its grammar or is missing.
+    /// The named file isn't in its grammar or is missing, or the virtual store may not lie where it says.
     Manifest(Text, FileWhy),
     /// No published version is one that the edge asks for.
     NoVersion(Edge),
@@ -37,8 +38,12 @@ pub enum Status {
     Limit(Which, u64),
     /// That path of the package has a part `node_modules`.
     Bundled(PkgId, RelPath),
+    /// Other bytes with this SHA-512 than a package's file are in the store.
+    DigestClash(Digest),
     /// A call of the project's tree failed.
     ProjectFault,
+    /// A call of the store failed.
+    StoreFault,
     /// A call of the registry's tree failed.
     RegistryFault,
     /// The output took the report in part or not at all.
@@ -47,9 +52,9 @@ pub enum Status {
     NotYet(Text),
 }
 
-/// What is limited: 16,384 packages, 268,435,456 bytes of a package's file, 16,777,216 bytes of a
-/// manifest, 4,096 bytes of a path, 4,194,304 entries of a package or of a name's
-/// folder.
+/// What is limited: 16,384 packages, 268,435,456 bytes of a package's file, 16,777,216 bytes of a manifest or a workspace
+/// file, 4,096 bytes of a path, 4,194,304 entries of a package or of a name's folder,
+/// 65,536 numbers of installers of one store.
 #[derive(Clone, Copy, Debug, PartialEq, Eq)]
 pub enum Which {
     Packages,
@@ -57,6 +62,7 @@ pub enum Which {
     Text,
     Path,
     Entries,
+    Numbers,
 }
 
 impl Status {
@@ -73,7 +79,9 @@ impl Status {
             Status::Unsupported(_) => 7,
             Status::Limit(_, _) => 11,
             Status::Bundled(_, _) => 13,
+            Status::DigestClash(_) => 14,
             Status::ProjectFault => 20,
+            Status::StoreFault => 21,
             Status::RegistryFault => 22,
             Status::SinkFault => 23,
             Status::NotYet(_) => 30,
