@@ -48,6 +48,7 @@ check_by sh check-shipped.sh
 check_by node check-launcher.mjs
 check_by node check-with-node.mjs
 check_by node check-refusals.mjs
+check_by python3 check-shared-store.py
 check_by node check-ranges.mjs
 check_by python3 check-yaml.py
 

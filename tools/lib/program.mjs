@@ -2,6 +2,7 @@
 import { spawnSync } from 'node:child_process';
 import { dirname, join, resolve } from 'node:path';
 import { fileURLToPath } from 'node:url';
+import { temporary } from './trees.mjs';
 
 export const top = dirname(dirname(dirname(fileURLToPath(import.meta.url))));
 
@@ -11,9 +12,12 @@ export const named = process.argv[2] === undefined ? undefined : resolve(process
 // The installer that is checked: the one that is named, else the launcher.
 export const program = named ?? join(top, 'pnpm-rs');
 
+// The store of all installs of one check.
+const store = join(temporary(), 'store');
+
 const cleanEnv = (more) => {
   const { PNPM_RS_REGISTRY, NODE_PATH, NODE_OPTIONS, NODE_PRESERVE_SYMLINKS, ...kept } = process.env;
-  return { ...kept, ...more };
+  return { ...kept, PNPM_RS_STORE: store, ...more };
 };
 
 // Runs a program in a folder and answers its status and what it wrote.
