@@ -1,5 +1,5 @@
 -- Lemmas on calls that put packages under a number.
-use Rattle.std.proofs.Common.{◌≡◌, ◌≤◌, ℕ, List, [], ◌∷◌, refl, sym, subst, arith}
+use Rattle.std.proofs.Common.{◌≡◌, ◌≤◌, ℕ, List, [], ◌∷◌, refl, sym, subst, inl, arith}
 use Rattle.std.specs.Prelude.{Option}
 use Rattle.std.specs.List.{Contains}
 use Rattle.sha2.specs.Sha512.{sha512}
@@ -16,7 +16,9 @@ use Rattle.pn_storecore.specs.CallLaws.{GrewLaw, ClaimsLaw, WasLaw}
 use Rattle.pn_store.specs.Held.{IsHeld, Works}
 use Rattle.pn_store.specs.Leaves.{LeavesOthers}
 use Rattle.pn_store.specs.Own.{Made, IsDropOf, PublishedAtMost, PublishedOne}
-use Rattle.pn_store.specs.Puts.{PutAtMost}
+use Rattle.pn_store.specs.Puts.{PutAtMost, PutLeft}
+use Rattle.pn_store.specs.declared.fault.PutFault.{PutFault}
+use Rattle.pn_store.specs.declared.fault.PutFault.TheVariants.{StoreFault, SourceFault, TooLarge, Clash, Memory}
 use Rattle.pn_store.proofs.HeldLemmas.{works_twice, works_none}
 use Rattle.pn_store.proofs.LeavesLemmas.{others_both}
 use Rattle.pn_store.proofs.MadeLemmas.{made_both, made_none}
@@ -75,6 +77,14 @@ fetches_file p k from gone old new at file works published keeps = record {
   own = file_made from.tree (p ∷ []) k at old new file works.own (one_at_most (PublishFile k 0 at) old new published);
   registry = keeps;
 }
+
+-- what a put that was refused left, whatever the refusal
+pub at_most : (source : Option Tree) (q : Path) (k : ℕ) (old new : Seen) (e : PutFault) → PutLeft source q k old new e → PutAtMost source q k old new
+at_most source q k old new StoreFault h = h
+at_most source q k old new Memory h = h
+at_most source q k old new SourceFault h = inl h
+at_most source q k old new (TooLarge n) h = inl h
+at_most source q k old new (Clash at) h = inl h
 
 -- a file was refused
 pub fetches_refused : (p : Package) (k : ℕ) (q : Path) (from gone : Source) (old new : Seen) → IsPlaceOf (p ∷ []) q → Works k old new → PutAtMost from.tree q k old new → Keeps from gone → Fetches (p ∷ []) k from gone old new

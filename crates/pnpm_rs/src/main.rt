@@ -47,19 +47,19 @@ fn start(rt: HostRuntime) -> Status {
 
 // The folders that are `/` of the project's and the registry's file system, and the store's.
 #[derive(Drop)]
-struct Places {
+struct Roots {
     root: AbsPath,
     registry: AbsPath,
     store: AbsPath,
 }
 
-fn folders(rt: &HostRuntime, place: &AbsPath) -> Result<Places, Status> {
+fn folders(rt: &HostRuntime, place: &AbsPath) -> Result<Roots, Status> {
     let Ok(root) = AbsPath::root(rt.alloc()) else {
         return Err(Status::Memory);
     };
     let registry = registry_folder(rt, place)?;
     let store = store_folder(rt, place)?;
-    Ok(Places {
+    Ok(Roots {
         root,
         registry,
         store,

@@ -4,7 +4,7 @@ use Rattle.pn_store.specs.Puts.{IsSource}
 use Rattle.pn_text.proofs.Members.{here}
 use Rattle.pn_fetch.specs.Faults.{PutsRefused}
 use Rattle.pn_fetch.specs.Steps.{IsPlaceOf}
-use Rattle.pn_fetch.proofs.FetchesLemmas.{fetches_file, fetches_none, fetches_refused}
+use Rattle.pn_fetch.proofs.FetchesLemmas.{at_most, fetches_file, fetches_none, fetches_refused}
 use Rattle.pn_fetch.proofs.PutsRefusedLemmas.{refused_file}
 use Rattle.pn_fetch.proofs.files.put_one.Goals as goal
 
@@ -41,7 +41,7 @@ returns-clause-fetches g c =
     let p = c.args.one.now in
     let place : IsPlaceOf (p ∷ []) c.in_ok-at.at = (p, here p [], (c.args.path.now, c.requires.among, c.in_ok-at.ensures)) in
     fetches_refused p c.args.claim.now c.in_ok-at.at (g.R.ReadFs.seen c.args.registry.now) (g.R.ReadFs.seen c.put_file.new.from) (g.D.StoreDisk.seen c.args.disk.now) (g.D.StoreDisk.seen c.put_file.new.disk)
-    place c.put_file.ensures.works c.in-Err.ensures.refused c.put_file.ensures.source
+    place c.put_file.ensures.works (at_most (g.R.ReadFs.seen c.args.registry.now).tree c.in_ok-at.at c.args.claim.now (g.D.StoreDisk.seen c.args.disk.now) (g.D.StoreDisk.seen c.put_file.new.disk) c.in-Err.fault c.in-Err.ensures.refused) c.put_file.ensures.source
 
 pub returns-clause-refused : goal.returns-clause-refused
 returns-clause-refused g c =
