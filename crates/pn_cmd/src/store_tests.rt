@@ -1,27 +1,24 @@
-// Runs over stores that others use, and over stores whose calls fail.
+// What runs leave in a store, also beside another installer.
 
-use crate::fixtures::{A, B, PROJECT, fill, run_on, shown};
+use crate::fixtures::{A, B, PROJECT, fill, run_on};
 use pn_digest::{Digest, Integrity};
 use pn_fs::{SureFs, SureSink};
-use pn_memstore::MemStore;
+use pn_memstore::{MemStore, SureStore};
 use pn_store::has;
 use pn_storecore::{Bytes, Place, StoreDisk, StoreStep};
 use std::alloc::Global;
 use std::test::Fail;
 
-// What a run left: its status, what it told, what stands at the managed folder, and how many files, listings and numbers
-// the store has.
+// A run's status, and how many files, listings and numbers it left in the store.
 #[derive(Drop)]
-struct Left {
+struct Outcome {
     code: u8,
-    err: SureSink,
-    modules: String,
     files: usize,
     listings: usize,
     numbers: Vec<u32>,
 }
 
-fn install<D: StoreDisk>(alloc: Global, store: &mut D) -> Result<Left, Fail> {
+fn install<D: StoreDisk>(alloc: Global, store: &mut D) -> Result<Outcome, Fail> {
     let mut project = SureFs::new(alloc);
     fill(alloc, &mut project, PROJECT)?;
     let mut registry = SureFs::new(alloc);
@@ -39,33 +36,20 @@ fn install<D: StoreDisk>(alloc: Global, store: &mut D) -> Result<Left, Fail> {
         &mut out,
         &mut err,
     )?;
-    let modules = shown(alloc, &mut project, "/w/node_modules")?;
-    left(store, code, err, modules)
+    left(store, code)
 }
 
-// What the store has; nothing is known of it where the call fails.
-fn left<D: StoreDisk>(
-    store: &mut D,
-    code: u8,
-    err: SureSink,
-    modules: String,
-) -> Result<Left, Fail> {
+// What the store has.
+fn left<D: StoreDisk>(store: &mut D, code: u8) -> Result<Outcome, Fail> {
     let files = store.list(Place::Files)?.len();
     let listings = store.list(Place::Listings)?.len();
     let numbers = store.numbers()?;
-    Ok(Left {
+    Ok(Outcome {
         code,
-        err,
-        modules,
         files,
         listings,
         numbers,
     })
-}
-
-// A store of installer 1, whose k-th call fails.
-fn failing(alloc: Global, k: u64) -> Result<MemStore, Fail> {
-    Ok(MemStore::new(alloc, 1, Vec::new(alloc), vec![in alloc; k]?))
 }
 
 // The files of a package, by their paths.
@@ -92,7 +76,7 @@ const LISTING_B: &str =
 #[test]
 fn each_package_is_in_the_store(rt: HostRuntime) -> Result<(), Fail> {
     let alloc = rt.alloc();
-    let mut store = failing(alloc, u64::MAX)?;
+    let mut store = SureStore::new(alloc, 1);
     let left = install(alloc, &mut store)?;
     assert_eq!(rt; left.code, 0);
     assert_eq!(rt; left.files, 4);
@@ -104,26 +88,6 @@ fn each_package_is_in_the_store(rt: HostRuntime) -> Result<(), Fail> {
         };
         assert!(rt; has(&mut store, &at)?);
     }
-    Ok(())
-}
-
-#[test]
-fn each_failed_call_of_the_store_is_told(rt: HostRuntime) -> Result<(), Fail> {
-    let alloc = rt.alloc();
-    let mut k = 0u64;
-    loop {
-        let mut store = failing(alloc, k)?;
-        let left = install(alloc, &mut store)?;
-        if left.code == 0 {
-            break;
-        }
-        assert_eq!(rt; left.code, 21);
-        assert_eq!(rt; left.err.bytes(), b"pnpm-rs: store fault\n");
-        assert_eq!(rt; left.modules.as_str(), "nothing");
-        k += 1;
-    }
-    // a claim; for each of four files and two listings five calls at least; two to release
-    assert!(rt; k >= 33);
     Ok(())
 }
 
