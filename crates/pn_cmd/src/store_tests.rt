@@ -137,7 +137,7 @@ fn shared(alloc: Global, count: usize, apart: u64) -> Result<MemStore, Fail> {
     let mut call = 0u64;
     for step in steps.into_iter().take(count) {
         others.push((call, 2, step))?;
-        call += apart;
+        call = call.saturating_add(apart);
     }
     Ok(MemStore::new(alloc, 1, others, Vec::new(alloc)))
 }
