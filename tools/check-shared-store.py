@@ -17,6 +17,9 @@ import sys
 import tempfile
 import time
 
+sys.path.insert(0, os.path.join(os.path.dirname(os.path.abspath(__file__)), "lib"))
+from stores import damage, misplaced, numbers_wrong, stored
+
 TOP = os.path.dirname(os.path.dirname(os.path.abspath(__file__)))
 INSTALLERS = 8
 ROUNDS = 6
@@ -73,39 +76,14 @@ def tree_of(project):
     return found
 
 
-def stored(store, place):
-    """The bytes at each address."""
-    found = {}
-    top = os.path.join(store, place)
-    for shard in os.listdir(top):
-        for name in os.listdir(os.path.join(top, shard)):
-            with open(os.path.join(top, shard, name), "rb") as file:
-                found[shard + name] = file.read()
-    return found
-
-
 def store_wrong(store, texts, killed):
-    wrong = []
     files, listings = stored(store, "files"), stored(store, "listings")
-    for place in (files, listings):
-        wrong += [f"at {at} is another digest" for at, data in place.items() if hashlib.sha512(data).hexdigest() != at]
+    wrong = misplaced(files) + misplaced(listings) + numbers_wrong(store, killed)
     for text in texts:
         if listings.get(hashlib.sha512(text).hexdigest()) != text:
             wrong.append("a package's listing isn't in the store")
         wrong += [f"the file {line[:128]} isn't in the store" for line in text.decode().splitlines() if line[:128] not in files]
-    numbers = os.listdir(os.path.join(store, "tmp"))
-    if len(numbers) > killed:
-        wrong.append(f"{len(numbers)} numbers are left, of {killed} processes that were killed")
     return wrong
-
-
-def damage(store, rnd):
-    """Changes each third file that is stored."""
-    top = os.path.join(store, "files")
-    for shard in sorted(os.listdir(top))[::3]:
-        for name in os.listdir(os.path.join(top, shard)):
-            with open(os.path.join(top, shard, name), "wb") as file:
-                file.write(rnd.randbytes(rnd.choice(SIZES)))
 
 
 def one_round(program, folder, registry, texts, rnd, kills):
@@ -126,7 +104,7 @@ def one_round(program, folder, registry, texts, rnd, kills):
         wrong += store_wrong(store, texts, len(killed))
         if tree_of(project) != tree_of(projects[-1]):
             wrong.append("two installs left two trees")
-        damage(store, rnd)
+        damage(store, rnd, SIZES)
     shutil.rmtree(folder)
     return wrong
 

@@ -18,6 +18,9 @@ import sys
 import tempfile
 import time
 
+sys.path.insert(0, os.path.join(os.path.dirname(os.path.abspath(__file__)), "lib"))
+from stores import damage, misplaced, numbers_wrong, stored
+
 TOP = os.path.dirname(os.path.dirname(os.path.abspath(__file__)))
 INSTALLERS = 8
 ROUNDS = 20
@@ -61,38 +64,15 @@ def said_wrong(process, paths, wanted):
     return [f"{path}: {line}" for path, line in zip(paths, said) if line != wanted[path][0]]
 
 
-def stored(store, place):
-    """The addresses at a place, each with the digest of what is there."""
-    found = {}
-    top = os.path.join(store, place)
-    for shard in os.listdir(top):
-        for name in os.listdir(os.path.join(top, shard)):
-            with open(os.path.join(top, shard, name), "rb") as file:
-                found[shard + name] = hashlib.sha512(file.read()).hexdigest()
-    return found
-
-
 def left_wrong(store, wanted, killed):
     """What a round left otherwise than wanted."""
-    wrong = []
+    wrong = numbers_wrong(store, killed)
     for place, part in (("files", 1), ("listings", 2)):
         found = stored(store, place)
-        wrong += [f"{place}: {at} has the digest {digest}" for at, digest in found.items() if at != digest]
+        wrong += misplaced(found)
         if set(found) != {row[part] for row in wanted.values()}:
             wrong.append(f"{place}: {len(found)} addresses")
-    numbers = os.listdir(os.path.join(store, "tmp"))
-    if len(numbers) > killed:
-        wrong.append(f"{len(numbers)} numbers are left, of {killed} installers that were killed")
     return wrong
-
-
-def damage(store, rnd):
-    """Changes each third file that is stored."""
-    top = os.path.join(store, "files")
-    for shard in sorted(os.listdir(top))[::3]:
-        for name in os.listdir(os.path.join(top, shard)):
-            with open(os.path.join(top, shard, name), "wb") as file:
-                file.write(rnd.randbytes(rnd.choice(SIZES)))
 
 
 def one_round(program, folder, wanted, rnd, kills):
@@ -114,7 +94,7 @@ def one_round(program, folder, wanted, rnd, kills):
     if kills:
         wrong += said_wrong(start(program, store, orders[0], folder), orders[0], wanted)
     wrong += left_wrong(store, wanted, len(killed))
-    damage(store, rnd)
+    damage(store, rnd, SIZES)
     wrong += said_wrong(start(program, store, orders[0], folder), orders[0], wanted)
     wrong += left_wrong(store, wanted, len(killed))
     shutil.rmtree(store)
