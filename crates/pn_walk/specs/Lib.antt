@@ -5,5 +5,6 @@ pub mod WalkLaws
 pub mod Keeps
 pub mod Starts
 pub mod Edges
+pub mod Reads
 pub mod Calls
 pub mod Places

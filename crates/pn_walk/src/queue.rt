@@ -6,6 +6,7 @@ ghost use Rattle.pn_walk.specs.Places.{IsTied, KeepsPlace};
 ghost use Rattle.pn_walk.specs.Wants.{Node as TheNode, Place as ThePlace, to_package, at_package};
 ghost use Rattle.pn_walk.specs.Walks.{turn_by, State, Walk, IsWalked, place_of, turns_of};
 ghost use Rattle.pn_walk.specs.Edges.{AskedFrom};
+ghost use Rattle.pn_walk.specs.Reads.{HasRead, ReadsOnce};
 ghost use Rattle.pn_walk.specs.declared.fault.WalkFault.TheVariants.{Memory as no_memory};
 ghost use Rattle.pn_walk.specs.Calls.{at, link_of, OnWays, Stops, Met, Took, TookAll, StopsIn, IsTooMany, EdgeRefused};
 
@@ -36,7 +37,8 @@ impl Queue {
         ensures kept { Keeps (W.leads ways.old) (W.leads ways.new) (W.node ways.old) (W.node ways.new) (W.lost ways.old) (W.lost ways.new) (W.unread ways.old) (W.unread ways.new) }
         ensures good { W.good ways.new }
         ensures tied { OnOk result (IsTied self.new) }
-        ensures follows { W.follows ways.old ways.new }
+        ensures read { OnOk result (HasRead (λ ids. W.follows ways.old ids ways.new) self.old.nodes.items self.new.nodes.items) }
+        ensures once { ReadsOnce (λ ids. W.follows ways.old ids ways.new) self.old.nodes.items }
         ensures broke { IfErr result (OnWays (W.broke ways.old ways.new)) }
     {
         match ways.follow(alloc, wish) {
@@ -68,7 +70,8 @@ impl Queue {
         ensures kept { Keeps (W.leads ways.old) (W.leads ways.new) (W.node ways.old) (W.node ways.new) (W.lost ways.old) (W.lost ways.new) (W.unread ways.old) (W.unread ways.new) }
         ensures good { W.good ways.new }
         ensures tied { OnOk result (IsTied self.new) }
-        ensures follows { W.follows ways.old ways.new }
+        ensures read { OnOk result (HasRead (λ ids. W.follows ways.old ids ways.new) self.old.nodes.items self.new.nodes.items) }
+        ensures once { ReadsOnce (λ ids. W.follows ways.old ids ways.new) self.old.nodes.items }
         ensures broke { IfErr result (OnWays (W.broke ways.old ways.new)) }
     {
         for wish in wishes {
@@ -92,7 +95,8 @@ impl Queue {
         ensures kept { Keeps (W.leads ways.old) (W.leads ways.new) (W.node ways.old) (W.node ways.new) (W.lost ways.old) (W.lost ways.new) (W.unread ways.old) (W.unread ways.new) }
         ensures good { W.good ways.new }
         ensures tied { OnOk result (IsTied self.new) }
-        ensures follows { W.follows ways.old ways.new }
+        ensures read { OnOk result (HasRead (λ ids. W.follows ways.old ids ways.new) self.old.nodes.items self.new.nodes.items) }
+        ensures once { ReadsOnce (λ ids. W.follows ways.old ids ways.new) self.old.nodes.items }
         ensures broke { IfErr result (OnWays (W.broke ways.old ways.new)) }
     {
         for k in 0..PACKAGE_LIMIT {
@@ -133,7 +137,8 @@ impl Queue {
         ensures kept { Keeps (W.leads ways.old) (W.leads ways.new) (W.node ways.old) (W.node ways.new) (W.lost ways.old) (W.lost ways.new) (W.unread ways.old) (W.unread ways.new) }
         ensures good { W.good ways.new }
         ensures tied { OnOk result (IsTied self.new) }
-        ensures follows { W.follows ways.old ways.new }
+        ensures read { OnOk result (HasRead (λ ids. W.follows ways.old ids ways.new) self.old.nodes.items self.new.nodes.items) }
+        ensures once { ReadsOnce (λ ids. W.follows ways.old ids ways.new) self.old.nodes.items }
         ensures broke { IfErr result (OnWays (W.broke ways.old ways.new)) }
     {
         match self.meet(alloc, ways, from, wish, id) {
@@ -159,7 +164,8 @@ impl Queue {
         ensures kept { Keeps (W.leads ways.old) (W.leads ways.new) (W.node ways.old) (W.node ways.new) (W.lost ways.old) (W.lost ways.new) (W.unread ways.old) (W.unread ways.new) }
         ensures good { W.good ways.new }
         ensures tied { OnOk result (IsTied self.new) }
-        ensures follows { W.follows ways.old ways.new }
+        ensures read { OnOk result (HasRead (λ ids. W.follows ways.old ids ways.new) self.old.nodes.items self.new.nodes.items) }
+        ensures once { ReadsOnce (λ ids. W.follows ways.old ids ways.new) self.old.nodes.items }
         ensures broke { IfErr result (OnWays (W.broke ways.old ways.new)) }
     {
         if let Some(at) = self.place(id) {

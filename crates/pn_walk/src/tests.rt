@@ -79,15 +79,15 @@ impl Ways for Shelf {
 
     ghost unread = { λ s i f. Unit {0} };
 
-    ghost follows = { λ s t. Unit {0} };
+    ghost follows = { λ s ids t. Unit {0} };
 
     ghost broke = { λ s t f. Unit {0} };
 
     ghost rests = { λ s. tt };
 
-    ghost goes_on = { λ a b c h k. tt };
+    ghost goes_on = { λ a b c is js h k. tt };
 
-    ghost broke_later = { λ a b c f h k. tt };
+    ghost broke_later = { λ a b c is f h k. tt };
 
     fn follow(&mut self, alloc: Global, wish: &Wish) -> Result<Option<Aim>, Lost> {
         if wish.specifier.as_str() == "?" {

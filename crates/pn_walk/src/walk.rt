@@ -2,6 +2,7 @@
 ghost use Rattle.std.specs.Prelude.{◌≡◌, ◌≤◌, ◌<◌, [], ◌^◌, Option, OnOk, IfOk, IfErr, length, map};
 ghost use Rattle.pn_walk.specs.Keeps.{Keeps};
 ghost use Rattle.pn_walk.specs.Places.{IsTied};
+ghost use Rattle.pn_walk.specs.Reads.{HasRead, ReadsOnce};
 ghost use Rattle.pn_walk.specs.Walks.{start, IsWalked};
 ghost use Rattle.pn_walk.specs.Calls.{at, Stops, OnWays, TookAll, StopsIn};
 ghost use Rattle.pn_walk.specs.Starts.{turns_from, asked_of, folders_of};
@@ -26,7 +27,8 @@ pub fn walked<W: Ways>(
     ensures walked { IfOk result (λ q. IsWalked (W.leads ways.old) (W.node ways.old) (start (turns_from 0 (asked_of projects.now))) (at [] q)) }
     ensures tied { IfOk result IsTied }
     ensures refused { IfErr result (Stops (W.leads ways.old) (W.node ways.old) (W.lost ways.old) (W.unread ways.old) (folders_of projects.now) (start (turns_from 0 (asked_of projects.now)))) }
-    ensures follows { W.follows ways.old ways.new }
+    ensures read { IfOk result (λ q. HasRead (λ ids. W.follows ways.old ids ways.new) [] q.nodes.items) }
+    ensures once { ReadsOnce (λ ids. W.follows ways.old ids ways.new) [] }
     ensures good { W.good ways.new }
     ensures broke { IfErr result (OnWays (W.broke ways.old ways.new)) }
 {
@@ -67,7 +69,8 @@ fn take_projects<W: Ways>(
     ensures good { W.good ways.new }
     ensures tied { OnOk result (IsTied queue.new) }
     ensures kept { Keeps (W.leads ways.old) (W.leads ways.new) (W.node ways.old) (W.node ways.new) (W.lost ways.old) (W.lost ways.new) (W.unread ways.old) (W.unread ways.new) }
-    ensures follows { W.follows ways.old ways.new }
+    ensures read { OnOk result (HasRead (λ ids. W.follows ways.old ids ways.new) queue.old.nodes.items queue.new.nodes.items) }
+    ensures once { ReadsOnce (λ ids. W.follows ways.old ids ways.new) queue.old.nodes.items }
     ensures broke { IfErr result (OnWays (W.broke ways.old ways.new)) }
 {
     for q in 0..projects.len() {

@@ -1,4 +1,4 @@
-use Rattle.std.proofs.Common.{◌≡◌, ◌<◌, get_or, List, length, map, take, drop, subst, sym, suc, arith}
+use Rattle.std.proofs.Common.{◌≡◌, ◌<◌, get_or, List, length, map, take, drop, refl, subst, sym, suc, arith}
 use Rattle.std.proofs.lemmas.List.{length-map}
 use Rattle.pn_walk.specs.Wants.{at_project}
 use Rattle.pn_walk.specs.Walks.{Turn, turn_by}
@@ -6,6 +6,8 @@ use Rattle.pn_walk.specs.Starts.{turns_from, asked_of, folders_of, wishes_of}
 use Rattle.pn_walk.specs.Calls.{TookAll}
 use Rattle.pn_walk.proofs.TookLemmas.{on_ways, keeps_on, keeps_same}
 use Rattle.pn_walk.proofs.EdgeLemmas.{asker_project, asked_at}
+use Rattle.pn_walk.proofs.ReadsLemmas.{read_none, read_on, once_on}
+use Rattle.pn_walk.specs.Graphs.{id_of}
 use Rattle.pn_walk.proofs.TookAllLemmas.{took_none, took_all_from, stops_in_from}
 use Rattle.pn_walk.proofs.StartLemmas.{split_first, more_first, took_on, stops_on}
 use Rattle.pn_walk.proofs.walk.take_projects.Goals as goal
@@ -19,7 +21,7 @@ loop-q-init g c =
       kept = keeps_same (W.leads a) (W.node a) (W.lost a) (W.unread a);
       good = c.requires.good;
       tied = c.requires.tied;
-      follows = g.met.W.Ways.rests a;
+      read = read_none (λ ids. W.follows a ids a) c.args.queue.now.nodes.items c.args.queue.now.nodes.items refl (g.met.W.Ways.rests a);
     }
 
 pub returns-in-Err-clause-refused : goal.returns-in-Err-clause-refused
@@ -48,13 +50,18 @@ returns-in-Err-clause-kept g c =
     let W = g.W.Ways in
     keeps_on (W.leads a) (W.leads b) (W.leads d) (W.node a) (W.node b) (W.node d) (W.lost a) (W.lost b) (W.lost d) (W.unread a) (W.unread b) (W.unread d) c.loop-q.invariant.kept c.take_all.ensures.kept
 
-pub returns-in-Err-clause-follows : goal.returns-in-Err-clause-follows
-returns-in-Err-clause-follows g c = g.met.W.Ways.goes_on c.args.ways.now c.loop-q.ways c.take_all.new.ways c.loop-q.invariant.follows c.take_all.ensures.follows
+pub returns-in-Err-clause-once : goal.returns-in-Err-clause-once
+returns-in-Err-clause-once g c =
+    let a = c.args.ways.now in
+    let b = c.loop-q.ways in
+    let d = c.take_all.new.ways in
+    let W = g.W.Ways in
+    once_on (λ ids. W.follows a ids b) (λ ids. W.follows b ids d) (λ ids. W.follows a ids d) c.args.queue.now.nodes.items c.loop-q.queue.nodes.items (g.met.W.Ways.goes_on a b d) c.loop-q.invariant.read c.take_all.ensures.once
 
 pub returns-in-Err-clause-broke : goal.returns-in-Err-clause-broke
 returns-in-Err-clause-broke g c =
     let W = g.W.Ways in
-    on_ways (W.broke c.loop-q.ways c.take_all.new.ways) (W.broke c.args.ways.now c.take_all.new.ways) c.in-Err.fault (λ f k. g.met.W.Ways.broke_later c.args.ways.now c.loop-q.ways c.take_all.new.ways f c.loop-q.invariant.follows k) c.in-Err.ensures.broke
+    on_ways (W.broke c.loop-q.ways c.take_all.new.ways) (W.broke c.args.ways.now c.take_all.new.ways) c.in-Err.fault (λ f k. g.met.W.Ways.broke_later c.args.ways.now c.loop-q.ways c.take_all.new.ways (map id_of c.loop-q.invariant.read.added) f c.loop-q.invariant.read.read k) c.in-Err.ensures.broke
 
 pub loop-q-preserved : goal.loop-q-preserved
 loop-q-preserved g c =
@@ -76,5 +83,5 @@ loop-q-preserved g c =
       kept = keeps_on (W.leads a) (W.leads b) (W.leads d) (W.node a) (W.node b) (W.node d) (W.lost a) (W.lost b) (W.lost d) (W.unread a) (W.unread b) (W.unread d) c.loop-q.invariant.kept c.take_all.ensures.kept;
       good = c.take_all.ensures.good;
       tied = c.in_default.ensures.tied;
-      follows = g.met.W.Ways.goes_on a b d c.loop-q.invariant.follows c.take_all.ensures.follows;
+      read = read_on (λ ids. W.follows a ids b) (λ ids. W.follows b ids d) (λ ids. W.follows a ids d) c.args.queue.now.nodes.items c.loop-q.queue.nodes.items c.take_all.new.self.nodes.items (g.met.W.Ways.goes_on a b d) c.loop-q.invariant.read c.in_default.ensures.read;
     }

@@ -3,6 +3,7 @@ use Rattle.pn_walk.specs.Keeps.{Keeps}
 use Rattle.pn_walk.specs.Walks.{turn_by}
 use Rattle.pn_walk.specs.Calls.{TookAll}
 use Rattle.pn_walk.specs.Places.{IsTied}
+use Rattle.pn_walk.specs.Reads.{HasRead}
 use Rattle.pn_walk.proofs.state.Queue.take_all.Given as goal
 
 abbrev pub invariant-loop-wish : goal.invariant-loop-wish
@@ -11,5 +12,5 @@ invariant-loop-wish g l = record {
   kept : Keeps (g.W.Ways.leads l.fn.ways) (g.W.Ways.leads l.ways) (g.W.Ways.node l.fn.ways) (g.W.Ways.node l.ways) (g.W.Ways.lost l.fn.ways) (g.W.Ways.lost l.ways) (g.W.Ways.unread l.fn.ways) (g.W.Ways.unread l.ways);
   good : g.W.Ways.good l.ways;
   tied : IsTied l.self;
-  follows : g.W.Ways.follows l.fn.ways l.ways;
+  read : HasRead (λ ids. g.W.Ways.follows l.fn.ways ids l.ways) l.fn.self.nodes.items l.self.nodes.items;
 }

@@ -4,6 +4,8 @@ use Rattle.pn_walk.specs.Walks.{turn_by}
 use Rattle.pn_walk.specs.Calls.{TookAll, StopsIn}
 use Rattle.pn_walk.proofs.TookLemmas.{on_ways, keeps_on}
 use Rattle.pn_walk.proofs.EdgeLemmas.{asker_package}
+use Rattle.pn_walk.proofs.ReadsLemmas.{read_on, once_on}
+use Rattle.pn_walk.specs.Graphs.{id_of}
 use Rattle.pn_walk.proofs.TookAllLemmas.{walk_at, stops_at, stops, took_all_from, stops_in_from}
 use Rattle.pn_walk.proofs.state.Queue.take_rest.Goals as goal
 
@@ -42,14 +44,19 @@ loop-k-preserved g c =
       within = omega (arith, within, ap length all.grows, length-append q.nodes.items all.added);
       good = c.take_all.ensures.good;
       tied = c.in_default-take_all.ensures.tied;
-      follows = g.met.W.Ways.goes_on a b d c.loop-k.invariant.follows c.take_all.ensures.follows;
+      read = read_on (λ ids. W.follows a ids b) (λ ids. W.follows b ids d) (λ ids. W.follows a ids d) c.args.self.now.nodes.items c.loop-k.self.nodes.items c.take_all.new.self.nodes.items (g.met.W.Ways.goes_on a b d) c.loop-k.invariant.read c.in_default-take_all.ensures.read;
       kept = keeps_on (W.leads a) (W.leads b) (W.leads d) (W.node a) (W.node b) (W.node d) (W.lost a) (W.lost b) (W.lost d) (W.unread a) (W.unread b) (W.unread d) c.loop-k.invariant.kept c.take_all.ensures.kept;
     }
 
-pub returns-in-Err-clause-follows : goal.returns-in-Err-clause-follows
-returns-in-Err-clause-follows g c = g.met.W.Ways.goes_on c.args.ways.now c.loop-k.ways c.take_all.new.ways c.loop-k.invariant.follows c.take_all.ensures.follows
+pub returns-in-Err-clause-once : goal.returns-in-Err-clause-once
+returns-in-Err-clause-once g c =
+    let a = c.args.ways.now in
+    let b = c.loop-k.ways in
+    let d = c.take_all.new.ways in
+    let W = g.W.Ways in
+    once_on (λ ids. W.follows a ids b) (λ ids. W.follows b ids d) (λ ids. W.follows a ids d) c.args.self.now.nodes.items c.loop-k.self.nodes.items (g.met.W.Ways.goes_on a b d) c.loop-k.invariant.read c.take_all.ensures.once
 
 pub returns-in-Err-clause-broke : goal.returns-in-Err-clause-broke
 returns-in-Err-clause-broke g c =
     let W = g.W.Ways in
-    on_ways (W.broke c.loop-k.ways c.take_all.new.ways) (W.broke c.args.ways.now c.take_all.new.ways) c.in-Err.fault (λ f k. g.met.W.Ways.broke_later c.args.ways.now c.loop-k.ways c.take_all.new.ways f c.loop-k.invariant.follows k) c.in-Err.ensures.broke
+    on_ways (W.broke c.loop-k.ways c.take_all.new.ways) (W.broke c.args.ways.now c.take_all.new.ways) c.in-Err.fault (λ f k. g.met.W.Ways.broke_later c.args.ways.now c.loop-k.ways c.take_all.new.ways (map id_of c.loop-k.invariant.read.added) f c.loop-k.invariant.read.read k) c.in-Err.ensures.broke

@@ -3,6 +3,7 @@ use Rattle.pn_walk.specs.Keeps.{Keeps}
 use Rattle.pn_walk.specs.Walks.{State, Walk, turns_of}
 use Rattle.pn_walk.specs.Calls.{at}
 use Rattle.pn_walk.specs.Places.{IsTied}
+use Rattle.pn_walk.specs.Reads.{HasRead}
 use Rattle.pn_walk.proofs.state.Queue.take_rest.Given as goal
 
 abbrev pub invariant-loop-k : goal.invariant-loop-k
@@ -12,5 +13,5 @@ invariant-loop-k g l = record {
   kept : Keeps (g.W.Ways.leads l.fn.ways) (g.W.Ways.leads l.ways) (g.W.Ways.node l.fn.ways) (g.W.Ways.node l.ways) (g.W.Ways.lost l.fn.ways) (g.W.Ways.lost l.ways) (g.W.Ways.unread l.fn.ways) (g.W.Ways.unread l.ways);
   good : g.W.Ways.good l.ways;
   tied : IsTied l.self;
-  follows : g.W.Ways.follows l.fn.ways l.ways;
+  read : HasRead (λ ids. g.W.Ways.follows l.fn.ways ids l.ways) l.fn.self.nodes.items l.self.nodes.items;
 }
