@@ -41,14 +41,14 @@ new_on met added js h k =
       ];
     }
 
-pub once_none : (reads : List Id → Type 0) (met : List Node) → reads [] → ReadsOnce reads met
-once_none reads met read = record { ids = []; read = read; fresh = new_none met }
-
 pub once_one : (reads : List Id → Type 0) (met : List Node) (i : Id) → None ≡ place_of i met → reads (i ∷ []) → ReadsOnce reads met
 once_one reads met i fresh read = record { ids = i ∷ []; read = read; fresh = new_one met i fresh }
 
-pub once_of : (reads : List Id → Type 0) (old new : List Node) → HasRead reads old new → ReadsOnce reads old
-once_of reads old new h = record { ids = map id_of h.added; read = h.read; fresh = h.fresh }
+pub once_of : (reads stops : List Id → Type 0) (old new : List Node) → ((ids : List Id) → reads ids → stops ids) → HasRead reads old new → ReadsOnce stops old
+once_of reads stops old new may h = record { ids = map id_of h.added; read = may (map id_of h.added) h.read; fresh = h.fresh }
+
+pub once_none : (stops : List Id → Type 0) (met : List Node) → stops [] → ReadsOnce stops met
+once_none stops met read = record { ids = []; read = read; fresh = new_none met }
 
 pub read_none : (reads : List Id → Type 0) (old new : List Node) → new ≡ old → reads [] → HasRead reads old new
 read_none reads old new same read = record { added = []; grows = same ∙ sym (append-nil old); read = read; fresh = new_none old }

@@ -1,5 +1,5 @@
 // The walk along edges.
-ghost use Rattle.std.specs.Prelude.{◌≡◌, ◌<◌, ◌≤◌, ◌∷◌, ◌++◌, [], ◌^◌, OnOk, IfOk, IfErr, ℕ, List, Some, None, length, map, get_or, vec_len};
+ghost use Rattle.std.specs.Prelude.{◌≡◌, ◌<◌, ◌≤◌, ◌∷◌, ◌++◌, [], ◌^◌, OnOk, OnErr, IfOk, IfErr, ℕ, List, Some, None, length, map, get_or, vec_len};
 ghost use Rattle.pn_text.specs.declared.limits.TheConstants.{PACKAGE_LIMIT};
 ghost use Rattle.pn_walk.specs.Keeps.{Keeps};
 ghost use Rattle.pn_walk.specs.Places.{IsTied, KeepsPlace};
@@ -38,7 +38,7 @@ impl Queue {
         ensures good { W.good ways.new }
         ensures tied { OnOk result (IsTied self.new) }
         ensures read { OnOk result (HasRead (λ ids. W.follows ways.old ids ways.new) self.old.nodes.items self.new.nodes.items) }
-        ensures once { ReadsOnce (λ ids. W.follows ways.old ids ways.new) self.old.nodes.items }
+        ensures once { OnErr result (ReadsOnce (λ ids. W.stops ways.old ids ways.new) self.old.nodes.items) }
         ensures broke { IfErr result (OnWays (W.broke ways.old ways.new)) }
     {
         match ways.follow(alloc, wish) {
@@ -71,7 +71,7 @@ impl Queue {
         ensures good { W.good ways.new }
         ensures tied { OnOk result (IsTied self.new) }
         ensures read { OnOk result (HasRead (λ ids. W.follows ways.old ids ways.new) self.old.nodes.items self.new.nodes.items) }
-        ensures once { ReadsOnce (λ ids. W.follows ways.old ids ways.new) self.old.nodes.items }
+        ensures once { OnErr result (ReadsOnce (λ ids. W.stops ways.old ids ways.new) self.old.nodes.items) }
         ensures broke { IfErr result (OnWays (W.broke ways.old ways.new)) }
     {
         for wish in wishes {
@@ -96,7 +96,7 @@ impl Queue {
         ensures good { W.good ways.new }
         ensures tied { OnOk result (IsTied self.new) }
         ensures read { OnOk result (HasRead (λ ids. W.follows ways.old ids ways.new) self.old.nodes.items self.new.nodes.items) }
-        ensures once { ReadsOnce (λ ids. W.follows ways.old ids ways.new) self.old.nodes.items }
+        ensures once { OnErr result (ReadsOnce (λ ids. W.stops ways.old ids ways.new) self.old.nodes.items) }
         ensures broke { IfErr result (OnWays (W.broke ways.old ways.new)) }
     {
         for k in 0..PACKAGE_LIMIT {
@@ -138,7 +138,7 @@ impl Queue {
         ensures good { W.good ways.new }
         ensures tied { OnOk result (IsTied self.new) }
         ensures read { OnOk result (HasRead (λ ids. W.follows ways.old ids ways.new) self.old.nodes.items self.new.nodes.items) }
-        ensures once { ReadsOnce (λ ids. W.follows ways.old ids ways.new) self.old.nodes.items }
+        ensures once { OnErr result (ReadsOnce (λ ids. W.stops ways.old ids ways.new) self.old.nodes.items) }
         ensures broke { IfErr result (OnWays (W.broke ways.old ways.new)) }
     {
         match self.meet(alloc, ways, from, wish, id) {
@@ -165,7 +165,7 @@ impl Queue {
         ensures good { W.good ways.new }
         ensures tied { OnOk result (IsTied self.new) }
         ensures read { OnOk result (HasRead (λ ids. W.follows ways.old ids ways.new) self.old.nodes.items self.new.nodes.items) }
-        ensures once { ReadsOnce (λ ids. W.follows ways.old ids ways.new) self.old.nodes.items }
+        ensures once { OnErr result (ReadsOnce (λ ids. W.stops ways.old ids ways.new) self.old.nodes.items) }
         ensures broke { IfErr result (OnWays (W.broke ways.old ways.new)) }
     {
         if let Some(at) = self.place(id) {

@@ -81,11 +81,17 @@ impl Ways for Shelf {
 
     ghost follows = { λ s ids t. Unit {0} };
 
+    ghost stops = { λ s ids t. Unit {0} };
+
     ghost broke = { λ s t f. Unit {0} };
 
     ghost rests = { λ s. tt };
 
     ghost goes_on = { λ a b c is js h k. tt };
+
+    ghost may_stop = { λ a b is h. tt };
+
+    ghost stops_later = { λ a b c is js h k. tt };
 
     ghost broke_later = { λ a b c is f h k. tt };
 

@@ -1,5 +1,5 @@
 // The walk from what projects ask for.
-ghost use Rattle.std.specs.Prelude.{◌≡◌, ◌≤◌, ◌<◌, [], ◌^◌, Option, OnOk, IfOk, IfErr, length, map};
+ghost use Rattle.std.specs.Prelude.{◌≡◌, ◌≤◌, ◌<◌, [], ◌^◌, Option, OnOk, OnErr, IfOk, IfErr, length, map};
 ghost use Rattle.pn_walk.specs.Keeps.{Keeps};
 ghost use Rattle.pn_walk.specs.Places.{IsTied};
 ghost use Rattle.pn_walk.specs.Reads.{HasRead, ReadsOnce};
@@ -16,7 +16,7 @@ use std::alloc::Global;
 use std::collections::BTreeMap;
 
 /// Takes the edges of the projects in order, and then those of the packages as they are met. The first edge that can't be
-/// taken is the refusal, by the asker's text, alias and specifier.
+/// taken is the refusal, by the asker's text, alias and specifier. The packages that are met are read, each once, and no others.
 pub fn walked<W: Ways>(
     alloc: Global,
     ways: &mut W,
@@ -28,7 +28,7 @@ pub fn walked<W: Ways>(
     ensures tied { IfOk result IsTied }
     ensures refused { IfErr result (Stops (W.leads ways.old) (W.node ways.old) (W.lost ways.old) (W.unread ways.old) (folders_of projects.now) (start (turns_from 0 (asked_of projects.now)))) }
     ensures read { IfOk result (λ q. HasRead (λ ids. W.follows ways.old ids ways.new) [] q.nodes.items) }
-    ensures once { ReadsOnce (λ ids. W.follows ways.old ids ways.new) [] }
+    ensures once { OnErr result (ReadsOnce (λ ids. W.stops ways.old ids ways.new) []) }
     ensures good { W.good ways.new }
     ensures broke { IfErr result (OnWays (W.broke ways.old ways.new)) }
 {
@@ -70,7 +70,7 @@ fn take_projects<W: Ways>(
     ensures tied { OnOk result (IsTied queue.new) }
     ensures kept { Keeps (W.leads ways.old) (W.leads ways.new) (W.node ways.old) (W.node ways.new) (W.lost ways.old) (W.lost ways.new) (W.unread ways.old) (W.unread ways.new) }
     ensures read { OnOk result (HasRead (λ ids. W.follows ways.old ids ways.new) queue.old.nodes.items queue.new.nodes.items) }
-    ensures once { ReadsOnce (λ ids. W.follows ways.old ids ways.new) queue.old.nodes.items }
+    ensures once { OnErr result (ReadsOnce (λ ids. W.stops ways.old ids ways.new) queue.old.nodes.items) }
     ensures broke { IfErr result (OnWays (W.broke ways.old ways.new)) }
 {
     for q in 0..projects.len() {

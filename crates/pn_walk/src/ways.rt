@@ -1,5 +1,5 @@
 // What wishes lead to, and what packages ask for.
-ghost use Rattle.std.specs.Prelude.{◌≡◌, List, [], ◌∷◌, ◌++◌, Option, IfOk, IfErr};
+ghost use Rattle.std.specs.Prelude.{◌≡◌, List, [], ◌∷◌, ◌++◌, Option, OnOk, OnErr, IfOk, IfErr};
 ghost use Rattle.pn_walk.specs.Keeps.{Keeps};
 ghost use Rattle.pn_walk.specs.Wants.{Wish as TheWish, Id as TheId, Aim as TheAim, Node as TheNode};
 
@@ -31,6 +31,9 @@ pub trait Ways {
     /// How calls that read these packages, in this order and no others, may leave the object.
     ghost follows: { Self → List TheId → Self → Type 0 };
 
+    /// The same, where the last call may have been refused.
+    ghost stops: { Self → List TheId → Self → Type 0 };
+
     /// What a refusal says of the calls before it, as that a count rose.
     ghost broke: { Self → Self → Self.Fault → Type 0 };
 
@@ -41,7 +44,8 @@ pub trait Ways {
         ensures lost { IfErr result (lost self.old wish.now) }
         ensures kept { Keeps (leads self.old) (leads self.new) (node self.old) (node self.new) (lost self.old) (lost self.new) (unread self.old) (unread self.new) }
         ensures good { good self.new }
-        ensures follows { follows self.old [] self.new }
+        ensures follows { OnOk result (follows self.old [] self.new) }
+        ensures stops { OnErr result (stops self.old [] self.new) }
         ensures broke { IfErr result (broke self.old self.new) };
 
     /// The package of an id.
@@ -52,12 +56,17 @@ pub trait Ways {
         ensures unread { IfErr result (unread self.old id.now) }
         ensures kept { Keeps (leads self.old) (leads self.new) (node self.old) (node self.new) (lost self.old) (lost self.new) (unread self.old) (unread self.new) }
         ensures good { good self.new }
-        ensures follows { follows self.old (id.now ∷ []) self.new }
+        ensures follows { OnOk result (follows self.old (id.now ∷ []) self.new) }
+        ensures stops { OnErr result (stops self.old (id.now ∷ []) self.new) }
         ensures broke { IfErr result (broke self.old self.new) };
 
     ghost rests: { (a : Self) → follows a [] a };
 
     ghost goes_on: { (a b c : Self) (is js : List TheId) → follows a is b → follows b js c → follows a (is ++ js) c };
+
+    ghost may_stop: { (a b : Self) (is : List TheId) → follows a is b → stops a is b };
+
+    ghost stops_later: { (a b c : Self) (is js : List TheId) → follows a is b → stops b js c → stops a (is ++ js) c };
 
     ghost broke_later: { (a b c : Self) (is : List TheId) (f : Self.Fault) → follows a is b → broke b c f → broke a c f };
 }

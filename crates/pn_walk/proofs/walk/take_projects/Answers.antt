@@ -56,7 +56,7 @@ returns-in-Err-clause-once g c =
     let b = c.loop-q.ways in
     let d = c.take_all.new.ways in
     let W = g.W.Ways in
-    once_on (λ ids. W.follows a ids b) (λ ids. W.follows b ids d) (λ ids. W.follows a ids d) c.args.queue.now.nodes.items c.loop-q.queue.nodes.items (g.met.W.Ways.goes_on a b d) c.loop-q.invariant.read c.take_all.ensures.once
+    once_on (λ ids. W.follows a ids b) (λ ids. W.stops b ids d) (λ ids. W.stops a ids d) c.args.queue.now.nodes.items c.loop-q.queue.nodes.items (g.met.W.Ways.stops_later a b d) c.loop-q.invariant.read c.in-Err.ensures.once
 
 pub returns-in-Err-clause-broke : goal.returns-in-Err-clause-broke
 returns-in-Err-clause-broke g c =

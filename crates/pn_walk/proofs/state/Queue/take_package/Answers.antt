@@ -1,4 +1,5 @@
-use Rattle.pn_text.proofs.Results.{on_ok}
+use Rattle.pn_text.proofs.Results.{on_ok, any_err}
+use Rattle.pn_walk.proofs.ReadsLemmas.{once_of}
 use Rattle.pn_walk.proofs.TookLemmas.{took_package}
 use Rattle.pn_walk.proofs.state.Queue.take_package.Goals as goal
 
@@ -7,3 +8,9 @@ returns-in-Ok-clause-took g c =
     let a = c.args.ways.now in
     let W = g.W.Ways in
     on_ok c.link.result (λ h. took_package (W.leads a) (W.node a) c.args.who c.args.wish.now c.args.id.now c.in-Ok.place c.args.self.now c.meet.new.self c.link.new.self c.requires.leads c.in-Ok.ensures.met h.0 h.1) c.link.ensures.linked
+
+pub returns-in-Ok-clause-once : goal.returns-in-Ok-clause-once
+returns-in-Ok-clause-once g c =
+    let a = c.args.ways.now in
+    let d = c.meet.new.ways in
+    any_err c.link.result (once_of (λ ids. g.W.Ways.follows a ids d) (λ ids. g.W.Ways.stops a ids d) c.args.self.now.nodes.items c.meet.new.self.nodes.items (g.met.W.Ways.may_stop a d) c.in-Ok.ensures.read)
