@@ -19,7 +19,7 @@ new_one met i fresh = record {
   unmet = λ j c d. not_there i met (sym fresh) (subst (Contains (map id_of met)) (sym (in_one i j c)) d);
 }
 
-distinct_on : (xs ys : List Id) → IsDistinct xs → IsDistinct ys → ((i : Id) → Contains xs i → Contains ys i → ⊥) → IsDistinct (xs ++ ys)
+pub distinct_on : (xs ys : List Id) → IsDistinct xs → IsDistinct ys → ((i : Id) → Contains xs i → Contains ys i → ⊥) → IsDistinct (xs ++ ys)
 distinct_on [] ys h k apart = k
 distinct_on (x ∷ xs) ys h k apart = (
   λ c. elim (Contains-append_cases xs ys x c) [
