@@ -10,3 +10,4 @@ mod VersionLemmas
 mod FitLemmas
 mod CachedLemmas
 mod SeekLemmas
+mod CallsLemmas

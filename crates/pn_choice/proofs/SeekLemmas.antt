@@ -1,5 +1,5 @@
 -- Where a wish leads by its specifier, and why it leads nowhere.
-use Rattle.std.proofs.Common.{◌≡◌, ℕ, Bool, false, List, [], Option, Some, None, refl, sym, ap, ◌∙◌, subst}
+use Rattle.std.proofs.Common.{◌≡◌, ℕ, Bool, true, false, List, [], Option, Some, None, refl, sym, ap, ◌∙◌, subst}
 use Rattle.std.specs.Prelude.{String, option_map}
 use Rattle.std.specs.BTreeMap.{BTreeMap}
 use Rattle.semver.specs.Parse.{Parts}
@@ -52,6 +52,11 @@ pub leads_to : (r : Option Tree) (held : List Id) (w : Wish) (n : List ℕ) (v :
 leads_to r held w n v o i h k found is =
     subst (λ (c : Option Id). LeadsGiven (Publishes r) (given_of held) w c (Some (to_package i))) (sym h)
     (of_package n v, k held, (found.found, found.chooses, found_some n w.optional found.found i (sym is ∙ found.is)))
+
+pub leads_nowhere : (r : Option Tree) (held : List Id) (w : Wish) (n : List ℕ) (v : Want) (o : Option Id) → w.chosen ≡ None → ReadsAs w (of_package n v) → IsVersionIn r held n v o → o ≡ None → w.optional ≡ true → LeadsBy r held w None
+leads_nowhere r held w n v o h k found is may =
+    subst (λ (c : Option Id). LeadsGiven (Publishes r) (given_of held) w c None) (sym h)
+    (of_package n v, k held, (None, subst (λ (x : Option Parts). Chooses (Publishes r) (given_of held) n v x) (none_found n found.found (sym is ∙ found.is)) found.chooses, (may, refl)))
 
 pub lost_version : (r : Option Tree) (held : List Id) (w : Wish) (n : List ℕ) (v : Want) (o : Option Id) → w.chosen ≡ None → ReadsAs w (of_package n v) → IsVersionIn r held n v o → o ≡ None → w.optional ≡ false → IsLost r held w no_version
 lost_version r held w n v o h k found is never =

@@ -3,6 +3,7 @@ pub mod Shows
 pub mod Cached
 pub mod Given
 pub mod Ways
+pub mod Calls
 pub mod Goes
 pub mod Graphs
 pub mod Refusals

@@ -1,6 +1,7 @@
 // Packages by their manifests.
-ghost use Rattle.std.specs.Prelude.{◌≡◌, ◌⊎◌, IfOk, OnOk, IfErr};
-ghost use Rattle.pn_fs.specs.Seen.{Keeps};
+ghost use Rattle.std.specs.Prelude.{◌≡◌, ◌⊎◌, ◌+◌, IfOk, OnOk, IfErr, IfSome};
+ghost use Rattle.pn_text.specs.declared.limits.TheConstants.{TEXT_LIMIT};
+ghost use Rattle.pn_fs.specs.Seen.{Keeps, GaveAtMost};
 ghost use Rattle.pn_manifest.specs.Says.{said_of};
 ghost use Rattle.pn_choice.specs.Built.{IsBuilt};
 ghost use Rattle.pn_choice.specs.Shows.{HasManifest, IsNodeOf};
@@ -22,6 +23,7 @@ pub fn package<R: ReadFs>(alloc: Global, registry: &mut R, id: &PkgId) -> Result
     ensures node { IfOk result (IsNodeOf (R.seen registry.old).tree) }
     ensures here { IfOk result (λ n. n.id ≡ id.now) }
     ensures untold { IfErr result (IsUntold (R.seen registry.old).tree id.now) }
+    ensures gave { IfSome (R.seen registry.old).tree (λ t. GaveAtMost (R.seen registry.old) (TEXT_LIMIT + 1) 0 (R.seen registry.new)) }
     ensures kept { Keeps (R.seen registry.old) (R.seen registry.new) }
     ensures broke { IfErr result (Broke (R.seen registry.old) (R.seen registry.new)) }
 {
@@ -36,6 +38,7 @@ pub fn package<R: ReadFs>(alloc: Global, registry: &mut R, id: &PkgId) -> Result
 fn read<R: ReadFs>(alloc: Global, registry: &mut R, id: &PkgId) -> Result<Manifest, WayFault>
     ensures has { IfOk result (λ m. HasManifest (R.seen registry.old).tree id.now (said_of m)) }
     ensures untold { IfErr result (IsUntold (R.seen registry.old).tree id.now) }
+    ensures gave { IfSome (R.seen registry.old).tree (λ t. GaveAtMost (R.seen registry.old) (TEXT_LIMIT + 1) 0 (R.seen registry.new)) }
     ensures kept { Keeps (R.seen registry.old) (R.seen registry.new) }
     ensures broke { IfErr result (Broke (R.seen registry.old) (R.seen registry.new)) }
 {

@@ -1,8 +1,11 @@
 // What the registry publishes under a name.
-ghost use Rattle.std.specs.Prelude.{◌≡◌, ◌⊎◌, Option, Some, IfOk, OnOk, IfErr, IsSome};
+ghost use Rattle.std.specs.Prelude.{◌≡◌, ◌⊎◌, ◌+◌, Option, Some, IfOk, OnOk, IfErr, IfSome, IsSome};
 ghost use Rattle.std.specs.BTreeMap.{get_by_text};
+ghost use Rattle.pn_text.specs.Name.{name_path};
+ghost use Rattle.pn_text.specs.declared.limits.TheConstants.{TEXT_LIMIT};
 ghost use Rattle.pn_fs.specs.Seen.{Keeps};
 ghost use Rattle.pn_fs.specs.Tree.{Tree};
+ghost use Rattle.pn_published.specs.Folders.{ListsOnce};
 ghost use Rattle.pn_published.specs.Shown.{shelf_of};
 ghost use Rattle.pn_choice.specs.Cached.{AreShown, KeepsShelves};
 ghost use Rattle.pn_choice.specs.Shows.{Publishes};
@@ -24,6 +27,7 @@ pub fn shelf<R: ReadFs>(
 ) -> Result<Published, WayFault>
     ensures publishes { IfOk result (λ p. Publishes (R.seen registry.old).tree name.now (shelf_of p)) }
     ensures unlisted { IfErr result (IsUnlisted (R.seen registry.old).tree name.now) }
+    ensures gave { IfSome (R.seen registry.old).tree (λ t. ListsOnce t (name_path name.now) (TEXT_LIMIT + 1) (R.seen registry.old) (R.seen registry.new)) }
     ensures kept { Keeps (R.seen registry.old) (R.seen registry.new) }
     ensures broke { IfErr result (Broke (R.seen registry.old) (R.seen registry.new)) }
 {

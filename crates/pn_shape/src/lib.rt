@@ -12,3 +12,6 @@ mod shape;
 
 pub use laws::shape_law;
 pub use shape::plain_of;
+
+#[cfg(test)]
+mod tests;

@@ -1,6 +1,6 @@
 use Rattle.std.proofs.Common.{rules}
 use Rattle.pn_choice.specs.Ways.{Loses}
-use Rattle.pn_choice.proofs.SeekLemmas.{unasked_loses, unlisted_loses, leads_to, lost_version, asks_once}
+use Rattle.pn_choice.proofs.SeekLemmas.{unasked_loses, unlisted_loses, leads_to, leads_nowhere, lost_version, asks_once}
 use Rattle.pn_choice.proofs.sources.Sources.seek.Goals as goal
 
 pub returns-in_err-asked-clause-lost : goal.returns-in_err-asked-clause-lost
@@ -44,3 +44,8 @@ pub returns-in-None-2-clause-once : goal.returns-in-None-2-clause-once
 returns-in-None-2-clause-once g c =
     asks_once c.args.wish.now c.in_ok-asked.asked.name c.in_ok-asked.asked.want c.args.self.now.shelves.now (g.R.ReadFs.seen c.args.self.now.registry.now) (g.R.ReadFs.seen c.version.new.self.registry.now) c.in_ok-asked.ensures.reads
     c.version.ensures.once
+
+pub returns-in-None-clause-leads : goal.returns-in-None-clause-leads
+returns-in-None-clause-leads g c =
+    leads_nowhere (g.R.ReadFs.seen c.args.self.now.registry.now).tree c.args.self.now.held.now c.args.wish.now c.in_ok-asked.asked.name c.in_ok-asked.asked.want c.in_ok-id.field-0 c.requires.asks c.in_ok-asked.ensures.reads
+    c.in_ok-id.ensures.version c.in-None.is c.if-wish.true

@@ -1,0 +1,66 @@
+-- Which calls a registry gets.
+use Rattle.std.specs.Prelude.{◌≡◌, ◌+◌, ℕ, Bool, true, false, List, [], ◌∷◌, String, Option, IfSome, is_some}
+use Rattle.std.specs.List.{Contains}
+use Rattle.std.specs.BTreeMap.{BTreeMap, get_by_text}
+use Rattle.pn_text.specs.Name.{name_path}
+use Rattle.pn_text.specs.declared.limits.TheConstants.{TEXT_LIMIT}
+use Rattle.pn_fs.specs.Seen.{Seen, Keeps, GaveAtMost}
+use Rattle.pn_published.specs.Folders.{ListsOnce}
+use Rattle.pn_published.specs.declared.published.Published.{Published}
+use Rattle.pn_walk.specs.Graphs.{IsDistinct}
+use Rattle.pn_walk.specs.Wants.{Id}
+
+-- The manifest of a package is read, or the folder of a name is listed, with its tags.
+pub data Ask : Type 0 where
+  manifest : Id → Ask
+  listing : List ℕ → Ask
+
+-- Each gives at most as much as reading it once.
+abbrev pub Gives : Ask → Seen → Seen → Type 0
+Gives (manifest i) old new = IfSome old.tree (λ t. GaveAtMost old (TEXT_LIMIT + 1) 0 new)
+Gives (listing n) old new = IfSome old.tree (λ t. ListsOnce t (name_path n) (TEXT_LIMIT + 1) old new)
+
+-- These and no other calls are made of the registry, one after the other.
+abbrev pub Asks : List Ask → Seen → Seen → Type 0
+Asks [] old new = new ≡ old
+Asks (x ∷ xs) old new = (mid : Seen) × Keeps old mid × Gives x old mid × Asks xs mid new
+
+-- the packages whose manifests are read, in order
+abbrev pub packages_of : List Ask → List Id
+packages_of [] = []
+packages_of (manifest i ∷ xs) = i ∷ packages_of xs
+packages_of (listing n ∷ xs) = packages_of xs
+
+-- the names whose folders are listed, in order
+abbrev pub names_of : List Ask → List (List ℕ)
+names_of [] = []
+names_of (manifest i ∷ xs) = names_of xs
+names_of (listing n ∷ xs) = n ∷ names_of xs
+
+-- whether it is known what is published under a name
+abbrev pub knows : {A : Type 0} → BTreeMap (String A) Published → List ℕ → Bool
+knows shelves n = is_some (get_by_text shelves n)
+
+-- Calls read the manifests of exactly these packages, in this order, and list the folders of names that weren't known, none
+-- twice. What was known is known still.
+pub record ReadsThese (known known' : List ℕ → Bool) (old : Seen) (ids : List Id) (new : Seen) : Type 0 where
+  pub asks : List Ask
+  pub made : Asks asks old new
+  pub packages : packages_of asks ≡ ids
+  pub once : IsDistinct (names_of asks)
+  pub unknown : (n : List ℕ) → Contains (names_of asks) n → known n ≡ false
+  pub still : (n : List ℕ) → known n ≡ true → known' n ≡ true
+
+-- The same, and each name whose folder is listed is known afterwards.
+pub record Learns (known known' : List ℕ → Bool) (old : Seen) (ids : List Id) (new : Seen) : Type 0 where
+  pub reads : ReadsThese known known' old ids new
+  pub learnt : (n : List ℕ) → Contains (names_of reads.asks) n → known' n ≡ true
+
+-- No manifest is read twice.
+pub record ReadsEach (known known' : List ℕ → Bool) (old : Seen) (ids : List Id) (new : Seen) : Type 0 where
+  pub once : IsDistinct ids
+  pub reads : ReadsThese known known' old ids new
+
+-- the same of some packages
+abbrev pub ReadsSome : (List ℕ → Bool) → (List ℕ → Bool) → Seen → Seen → Type 0
+ReadsSome known known' old new = (ids : List Id) × ReadsEach known known' old ids new
