@@ -1,7 +1,6 @@
 -- Calls of a registry: one manifest or one listing, and the packages of a graph.
 use Rattle.std.proofs.Common.{◌≡◌, ◌+◌, ℕ, Bool, true, false, List, [], ◌∷◌, map, refl, ap, ◌∙◌, subst}
 use Rattle.std.specs.Prelude.{IfSome}
-use Rattle.std.specs.List.{Contains}
 use Rattle.pn_text.proofs.Members.{none_in, in_one}
 use Rattle.pn_text.specs.Name.{name_path}
 use Rattle.pn_text.specs.declared.limits.TheConstants.{TEXT_LIMIT}

@@ -1,5 +1,5 @@
 -- Which calls a registry gets.
-use Rattle.std.specs.Prelude.{◌≡◌, ◌+◌, ℕ, Bool, true, false, List, [], ◌∷◌, String, Option, IfSome, is_some}
+use Rattle.std.specs.Prelude.{◌≡◌, ◌+◌, ℕ, Bool, true, false, List, [], ◌∷◌, String, IfSome, is_some}
 use Rattle.std.specs.List.{Contains}
 use Rattle.std.specs.BTreeMap.{BTreeMap, get_by_text}
 use Rattle.pn_text.specs.Name.{name_path}

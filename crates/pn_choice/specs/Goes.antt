@@ -3,13 +3,13 @@ use Rattle.std.proofs.Common.{◌≡◌, ℕ, Bool, true, false, List, [], ◌�
 use Rattle.std.specs.List.{Contains}
 use Rattle.std.proofs.lemmas.List.Elements.{Contains-append_cases}
 use Rattle.pn_text.proofs.Bools.{true_false}
-use Rattle.pn_text.proofs.Members.{none_in, in_one}
+use Rattle.pn_text.proofs.Members.{none_in}
 use Rattle.pn_fs.specs.Seen.{Seen}
 use Rattle.pn_fs.proofs.SeenLemmas.{keeps_on, keeps_same, rose_from}
 use Rattle.pn_walk.specs.Graphs.{IsDistinct}
 use Rattle.pn_walk.specs.Wants.{Id}
 use Rattle.pn_walk.proofs.ReadsLemmas.{distinct_on}
-use Rattle.pn_choice.specs.Calls.{Ask, manifest, listing, Gives, Asks, packages_of, names_of, ReadsThese, Learns}
+use Rattle.pn_choice.specs.Calls.{Ask, manifest, listing, Asks, packages_of, names_of, ReadsThese, Learns}
 use Rattle.pn_choice.specs.Ways.{Goes, Broke}
 use Rattle.pn_choice.specs.declared.way.WayFault.{WayFault}
 use Rattle.pn_choice.specs.declared.way.WayFault.TheVariants.{Unsupported, Unbuilt, NoVersion, Registry, Fault, Memory}

@@ -1,9 +1,8 @@
-use Rattle.std.proofs.Common.{◌≡◌, ◌∙◌, ap, sym, Some, subst, List, ℕ}
-use Rattle.std.specs.Prelude.{Option, option_map}
+use Rattle.std.proofs.Common.{◌≡◌, ◌∙◌, ap, sym, Some, subst, List}
+use Rattle.std.specs.Prelude.{Option}
 use Rattle.std.specs.BTreeMap.{get_by_text}
 use Rattle.pn_fs.specs.Tree.{Tree}
 use Rattle.pn_published.specs.Shown.{shelf_of}
-use Rattle.pn_published.specs.declared.published.Published.{Published}
 use Rattle.pn_walk.specs.Wants.{Id}
 use Rattle.pn_choice.specs.Shows.{Publishes}
 use Rattle.pn_choice.specs.Ways.{IsVersionIn}
