@@ -1,0 +1,4 @@
+pub mod Instances
+pub mod Lookups
+pub mod Singles
+pub mod Rows
