@@ -19,6 +19,7 @@ mod singles;
 pub use goal::Goal;
 pub use instances::Instances;
 pub use links::{Link, LinkLists, Links, Places};
+pub use lookups::goal_at;
 pub use singles::single;
 
 #[cfg(test)]

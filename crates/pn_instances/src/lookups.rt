@@ -36,7 +36,7 @@ impl Instances {
 }
 
 /// What a name leads to.
-pub(crate) fn goal_at(links: &[Link], name: &PkgName) -> Option<Goal>
+pub fn goal_at(links: &[Link], name: &PkgName) -> Option<Goal>
     ensures { result ≡ goal_at name.now links.now }
 {
     for link in links {
