@@ -1,0 +1,4 @@
+pub mod Members
+pub mod TargetTexts
+pub mod LockData
+pub mod Laws
