@@ -1,4 +1,8 @@
+-- what contracts cite, here and above
 pub mod Members
 pub mod TargetTexts
 pub mod LockData
 pub mod Laws
+-- what contracts within this crate cite
+pub mod FolderParts
+pub mod Runs

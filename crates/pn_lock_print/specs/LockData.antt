@@ -1,7 +1,7 @@
 -- The data that is printed of a lock.
 use Rattle.std.specs.Prelude.{ℕ, Bool, true, false, List, [], ◌∷◌, Option, Some, None, codes}
 use Rattle.pn_digest.specs.Digests.{integrity_text}
-use Rattle.pn_yaml.specs.Data.{Data, scalar, list, map, Items, no_items, item, no_members, member}
+use Rattle.pn_yaml.specs.Data.{Data, scalar, list, map, Items, no_items, item, Members, no_members, member}
 use Rattle.pn_lock.specs.declared.goal.LockGoal.{LockGoal}
 use Rattle.pn_lock.specs.declared.goal.LockGoal.TheVariants as goal
 use Rattle.pn_lock.specs.declared.lists.LockCatalog.{LockCatalog}
@@ -93,6 +93,9 @@ catalog_data e = pair_data e.specifier e.version
 abbrev pub group_data : Group → Data
 group_data g = map (entries (λ (e : LockCatalog). e.name) catalog_data g.1)
 
+abbrev pub groups_members : List Group → Members
+groups_members gs = entries (λ (g : Group). g.0) group_data gs
+
 abbrev pub catalogs_data : List LockCatalog → Option Data
 catalogs_data es = filled (λ (g : Group). g.0) group_data (groups_of es)
 
@@ -111,11 +114,17 @@ snapshots_data l = filled (λ (s : LockSnapshot). s.path) (snapshot_data l) l.sn
 abbrev pub settings_data : Bool → Data
 settings_data auto = map (member (codes "autoInstallPeers") (truth auto) (member (codes "excludeLinksFromLockfile") (truth false) no_members))
 
--- a lock: an empty list other than that of the projects isn't printed
-abbrev pub lock_data : Locked → Data
-lock_data l = map (member (codes "lockfileVersion") (text (codes "9.0")) (member (codes "settings") (settings_data l.auto)
-    (put (codes "catalogs") (catalogs_data l.catalogs)
-    (put (codes "overrides") (overrides_data l.overrides)
-    (member (codes "importers") (importers_data l)
+-- an empty list other than that of the projects isn't printed
+abbrev pub projects_members : Locked → Members
+projects_members l = member (codes "importers") (importers_data l)
     (put (codes "packages") (packages_data l.packages)
-    (put (codes "snapshots") (snapshots_data l) no_members)))))))
+    (put (codes "snapshots") (snapshots_data l) no_members))
+
+abbrev pub settings_then : Locked → Members → Members
+settings_then l more = member (codes "lockfileVersion") (text (codes "9.0")) (member (codes "settings") (settings_data l.auto)
+    (put (codes "catalogs") (catalogs_data l.catalogs)
+    (put (codes "overrides") (overrides_data l.overrides) more)))
+
+-- a lock
+abbrev pub lock_data : Locked → Data
+lock_data l = map (settings_then l (projects_members l))

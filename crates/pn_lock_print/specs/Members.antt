@@ -16,3 +16,8 @@ entries key write (x ∷ xs) = member (key x) (write x) (entries key write xs)
 abbrev pub filled : {A : Type 0} → (A → List ℕ) → (A → Data) → List A → Option Data
 filled key write [] = None
 filled key write (x ∷ xs) = Some (map (entries key write (x ∷ xs)))
+
+-- members and more of them
+abbrev pub joined : Members → Members → Members
+joined no_members more = more
+joined (member k d ms) more = member k d (joined ms more)
