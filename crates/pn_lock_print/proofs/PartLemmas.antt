@@ -1,5 +1,5 @@
 -- The parts of a folder's text.
-use Rattle.std.proofs.Common.{◌≡◌, ◌≢◌, ℕ, suc, ◌<◌, ◌≤◌, ◌+◌, List, [], ◌∷◌, ◌++◌, length, get_or, refl, sym, ap, ◌∙◌, true, false, Bool, cond, arith, append_assoc, append-nil, Some, None, length-append}
+use Rattle.std.proofs.Common.{◌≡◌, ◌≢◌, ℕ, suc, ◌<◌, ◌≤◌, ◌+◌, List, [], ◌∷◌, ◌++◌, length, get_or, refl, sym, ap, ◌∙◌, subst, true, false, Bool, cond, arith, append_assoc, append-nil, Some, None, length-append}
 use Rattle.std.specs.Prelude.{◌==◌, ◌||◌, not, IsTrue, MatchOption, Option, bytes_eq, codes, drop}
 use Rattle.std.specs.List.{list_any}
 use Rattle.std.specs.Borrow.{Bor}
@@ -131,3 +131,16 @@ way_up ups h = ap text_below (steps_parted ups [] h)
 pub steps_one : (p : Path) (text : List ℕ) → IsSteps p text → text ≡ steps_text p
 steps_one [] text h = h
 steps_one (x ∷ p) text h = ap (drop 1) h
+
+pub way_some : (ups from to a b : Path) (downs : Option (List ℕ)) (text out : List ℕ) → downs ≡ Some text → HaveParted ups (parts_left downs) → steps_to ups (parts_left downs) ≡ steps_to from to → from ≡ a → to ≡ b
+    → out ≡ (text_below (dots (length ups)) ++ 47 ∷ []) ++ text → out ≡ text_below (steps_to a b)
+way_some ups from to a b downs text out is apart same f t e =
+    let d : parts_left downs ≡ parts_of text = ap parts_left is in
+    e ∙ append_assoc (text_below (dots (length ups))) (47 ∷ []) text ∙ sym (way_down ups text (subst (HaveParted ups) d apart)) ∙ ap (λ p. text_below (steps_to ups p)) (sym d)
+    ∙ ap text_below (same ∙ ap (λ p. steps_to p to) f ∙ ap (steps_to a) t)
+
+pub way_none : (ups from to a b : Path) (downs : Option (List ℕ)) (out : List ℕ) → downs ≡ None → HaveParted ups (parts_left downs) → steps_to ups (parts_left downs) ≡ steps_to from to → from ≡ a → to ≡ b
+    → out ≡ text_below (dots (length ups)) → out ≡ text_below (steps_to a b)
+way_none ups from to a b downs out is apart same f t e =
+    let d : parts_left downs ≡ [] = ap parts_left is in
+    e ∙ sym (way_up ups (subst (HaveParted ups) d apart)) ∙ ap (λ p. text_below (steps_to ups p)) (sym d) ∙ ap text_below (same ∙ ap (λ p. steps_to p to) f ∙ ap (steps_to a) t)

@@ -1,5 +1,5 @@
 -- Dep paths under aliases.
-use Rattle.std.proofs.Common.{◌≡◌, ◌≢◌, ℕ, suc, List, [], ◌∷◌, ◌++◌, length, drop, refl, sym, ap, ◌∙◌, true, false, cond, append_assoc}
+use Rattle.std.proofs.Common.{◌≡◌, ◌≢◌, ℕ, suc, List, [], ◌∷◌, ◌++◌, length, drop, refl, sym, ap, ◌∙◌, Bool, true, false, cond, append_assoc}
 use Rattle.std.specs.Prelude.{bytes_eq}
 use Rattle.std.proofs.lemmas.Slice.Eq.{bytes_eq-Decides}
 use Rattle.pn_text.specs.Ids.{id_name, id_text}
@@ -33,3 +33,11 @@ path_whole alias path h other =
           absurd (other (cut.version ++ cut.groups) (cut.whole ∙ ap (λ n. id_text n cut.version ++ cut.groups) same ∙ append_assoc alias (64 ∷ cut.version) cut.groups))
       | false ↦ λ is. refl
     ] refl
+
+-- what is behind a front
+pub behind : (alias front path back rest : List ℕ) → front ≡ alias → path ≡ front ++ back → rest ≡ back → path ≡ alias ++ rest
+behind alias front path back rest f p r = p ∙ ap (λ a. a ++ back) f ∙ ap (λ t. alias ++ t) (sym r)
+
+-- nothing is printed of nothing
+pub path_none : (alias path : List ℕ) → path ≡ [] → path_text alias path ≡ []
+path_none alias path h = ap (path_text alias) h ∙ elim (bytes_eq [] alias) as (λ c. cond {A = List ℕ} c [] [] ≡ []) [ true ↦ refl | false ↦ refl ]

@@ -24,11 +24,14 @@ fn way(alloc: Global, from: &str, to: &str) -> Result<String, Memory>
 {
     let (up, down) = parted(below_root(from), below_root(to));
     let mut steps = steps_up(alloc, up)?;
-    if let Some(down) = down {
-        steps.push_str("/")?;
-        steps.push_str(down)?;
+    match down {
+        None => Ok(steps),
+        Some(down) => {
+            steps.push_str("/")?;
+            steps.push_str(down)?;
+            Ok(steps)
+        }
     }
-    Ok(steps)
 }
 
 // A folder's text, and none for the root.

@@ -8,6 +8,7 @@ ghost use Rattle.pn_lock_print.specs.TargetTexts.{path_text};
 use crate::link::link_text;
 use pn_lock::{Lock, LockGoal};
 use pn_text::{Memory, PkgName, Text};
+use sqlite_items::at;
 use std::alloc::Global;
 
 /// The text of a target, from a folder and under an alias.
@@ -22,7 +23,7 @@ pub(crate) fn goal_text(
 {
     match to {
         LockGoal::Importer(n) => link_text(alloc, base, folder_at(lock, n)),
-        LockGoal::Snapshot(n) => match lock.snapshots().get(n as usize) {
+        LockGoal::Snapshot(n) => match at(lock.snapshots(), n as usize) {
             Some(snapshot) => Text::of(alloc, path_text(alias, snapshot.path.as_str())),
             None => Text::of(alloc, ""),
         },
@@ -33,7 +34,7 @@ pub(crate) fn goal_text(
 fn folder_at(lock: &Lock, n: u32) -> &str
     ensures { result.now ≡ key_at (folders_of lock.now.importers) n }
 {
-    match lock.importers().get(n as usize) {
+    match at(lock.importers(), n as usize) {
         Some(importer) => importer.folder.as_str(),
         None => "",
     }

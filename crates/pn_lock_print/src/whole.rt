@@ -5,6 +5,7 @@ ghost use Rattle.pn_yaml.specs.Data.{Members};
 ghost use Rattle.pn_yaml.specs.View.{members_view, view};
 ghost use Rattle.pn_yaml_print.specs.Laws.{IsPrintable};
 ghost use Rattle.pn_yaml_print.specs.Printing.{marked, printed};
+ghost use Rattle.pn_lock.specs.Kept.{IsLock};
 ghost use Rattle.pn_lock_print.specs.LockData.{lock_data, projects_members, settings_data, settings_then};
 ghost use Rattle.pn_lock_print.specs.Members.{joined};
 
@@ -27,7 +28,7 @@ pub fn print(alloc: Global, lock: &Lock) -> Result<Vec<u8>, Memory>
 }
 
 fn lock_node(alloc: Global, lock: &Lock) -> Result<Node, Memory>
-    ensures data { IfOk result (λ n. view n ≡ lock_data lock.now) }
+    ensures shown { IfOk result (λ n. view n ≡ lock_data lock.now) }
     ensures printable { IfOk result (λ n. IsPrintable (view n)) }
 {
     let mut members = Items::new(alloc);
@@ -58,7 +59,8 @@ fn push_projects(
     members: &mut Items<(Text, Node)>,
     lock: &Lock,
 ) -> Result<(), Memory>
-    ensures { OnOk result (members_view members.new ≡ joined (members_view members.old) (projects_members lock.now)) }
+    ensures shown { OnOk result (members_view members.new ≡ joined (members_view members.old) (projects_members lock.now)) }
+    ensures kept { IsLock lock.now }
 {
     let importers = map_node(alloc, lock, ".", lock.importers())?;
     push_member(alloc, members, "importers", importers)?;
