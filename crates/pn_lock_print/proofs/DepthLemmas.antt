@@ -1,5 +1,5 @@
 -- How deep the levels of what is printed of a lock are nested.
-use Rattle.std.proofs.Common.{◌≡◌, ℕ, suc, ◌≤◌, Bool, true, false, List, [], ◌∷◌, arith}
+use Rattle.std.proofs.Common.{ℕ, suc, ◌≤◌, Bool, true, false, List, [], ◌∷◌, arith}
 use Rattle.std.specs.Prelude.{Option, Some, None, codes}
 use Rattle.pn_yaml.specs.Data.{Data, Members, no_members, member, depth, items_depth, members_depth}
 use Rattle.pn_yaml.specs.Data.{map as map_data}

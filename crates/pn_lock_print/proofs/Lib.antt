@@ -1,5 +1,6 @@
 pub mod ApartLemmas
 pub mod DepthLemmas
+pub mod EmptyLemmas
 pub mod KeyLemmas
 pub mod MemberLemmas
 pub mod PartLemmas

@@ -1,12 +1,12 @@
 -- The parts of a folder's text.
-use Rattle.std.proofs.Common.{◌≡◌, ◌≢◌, ℕ, suc, ◌<◌, ◌≤◌, ◌+◌, List, [], ◌∷◌, ◌++◌, length, get_or, refl, sym, ap, ◌∙◌, subst, true, false, Bool, cond, arith, append_assoc, append-nil, Some, None, length-append}
-use Rattle.std.specs.Prelude.{◌==◌, ◌||◌, not, IsTrue, MatchOption, Option, bytes_eq, codes, drop}
+use Rattle.std.proofs.Common.{◌≡◌, ◌≢◌, ℕ, suc, ◌<◌, ◌+◌, List, [], ◌∷◌, ◌++◌, length, get_or, refl, sym, ap, ◌∙◌, subst, true, false, cond, arith, append_assoc, append-nil, Some, None, length-append}
+use Rattle.std.specs.Prelude.{◌==◌, MatchOption, Option, bytes_eq, codes, drop}
 use Rattle.std.specs.List.{list_any}
 use Rattle.std.specs.Borrow.{Bor}
 use Rattle.std.proofs.lemmas.Bool.{eqb-true}
 use Rattle.std.proofs.lemmas.Str.Pattern.{IsSplitOnceResult, split_parts}
 use Rattle.std.proofs.lemmas.Slice.Eq.{bytes_eq-Decides}
-use Rattle.pn_text.specs.Path.{Path, is_flat, parts_from, tail_of, text_below}
+use Rattle.pn_text.specs.Path.{Path, parts_from, tail_of, text_below}
 use Rattle.pn_text.specs.Relative.{dots, slashes, IsSteps}
 use Rattle.pn_text.proofs.Bools.{left_false, right_false}
 use Rattle.pn_text.proofs.Bytes.{no_slash}
