@@ -7,3 +7,4 @@ pub mod PartLemmas
 pub mod PrintableLemmas
 pub mod RunLemmas
 pub mod TargetLemmas
+pub mod SampleLocks

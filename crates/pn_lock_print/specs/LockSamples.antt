@@ -16,31 +16,31 @@ use Rattle.pn_lock.specs.Locks.{Locked, locked}
 use Rattle.pn_lock_print.specs.LockData.{lock_data}
 
 -- the SHA-512 of no bytes
-abbrev digest_of_none : List ℕ
+abbrev pub digest_of_none : List ℕ
 digest_of_none = (207 ∷ 131 ∷ 225 ∷ 53 ∷ 126 ∷ 239 ∷ 184 ∷ 189 ∷ 241 ∷ 84 ∷ 40 ∷ 80 ∷ 214 ∷ 109 ∷ 128 ∷ 7 ∷ 214 ∷ 32 ∷ 228 ∷ 5 ∷ 11 ∷ 87 ∷ 21 ∷ 220 ∷ 131 ∷ 244 ∷ 169 ∷ 33 ∷ 211 ∷ 108 ∷ 233 ∷ 206 ∷ 71 ∷ 208 ∷ 209 ∷ 60 ∷ 93 ∷ 133 ∷ 242 ∷ 176 ∷ 255 ∷ 131 ∷ 24 ∷ 210 ∷ 135 ∷ 126 ∷ 236 ∷ 47 ∷ 99 ∷ 185 ∷ 49 ∷ 189 ∷ 71 ∷ 65 ∷ 122 ∷ 129 ∷ 165 ∷ 56 ∷ 50 ∷ 122 ∷ 249 ∷ 39 ∷ 218 ∷ 62 ∷ [])
 
-abbrev entry : List ℕ → List ℕ → List ℕ → List ℕ → LockCatalog
+abbrev pub entry : List ℕ → List ℕ → List ℕ → List ℕ → LockCatalog
 entry catalog name specifier version = record { catalog = catalog; name = name; specifier = specifier; version = version }
 
-abbrev rule : List ℕ → List ℕ → Override
+abbrev pub rule : List ℕ → List ℕ → Override
 rule selector value = record { selector = selector; value = value }
 
-abbrev dependency : List ℕ → List ℕ → LockGoal → LockDependency
+abbrev pub dependency : List ℕ → List ℕ → LockGoal → LockDependency
 dependency alias specifier to = record { alias = alias; specifier = specifier; to = to }
 
-abbrev importer : List ℕ → List LockDependency → List LockDependency → List LockDependency → LockImporter
+abbrev pub importer : List ℕ → List LockDependency → List LockDependency → List LockDependency → LockImporter
 importer folder dependencies dev optional = record { folder = folder; dependencies = dependencies; dev = dev; optional = optional }
 
-abbrev peer : List ℕ → List ℕ → LockPeer
+abbrev pub peer : List ℕ → List ℕ → LockPeer
 peer name range = record { name = name; range = range }
 
-abbrev packed : List ℕ → List LockPeer → List (List ℕ) → LockPackage
+abbrev pub packed : List ℕ → List LockPeer → List (List ℕ) → LockPackage
 packed id peers optional = record { id = id; integrity = digest_of_none; peers = peers; optional_peers = optional }
 
-abbrev link : List ℕ → LockGoal → LockLink
+abbrev pub link : List ℕ → LockGoal → LockLink
 link alias to = record { alias = alias; to = to }
 
-abbrev snapshot : List ℕ → List LockLink → List LockLink → List (List ℕ) → LockSnapshot
+abbrev pub snapshot : List ℕ → List LockLink → List LockLink → List (List ℕ) → LockSnapshot
 snapshot path dependencies optional transitive = record { path = path; dependencies = dependencies; optional = optional; transitive = transitive }
 
 -- a project without dependencies
