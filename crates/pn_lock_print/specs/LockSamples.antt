@@ -107,3 +107,16 @@ every_form = locked false
 pub every_form_printed : printed (lock_data every_form) ≡ codes "lockfileVersion: '9.0'\n\nsettings:\n  autoInstallPeers: false\n  excludeLinksFromLockfile: false\n\ncatalogs:\n  a:\n    c:\n      specifier: ^1.0.0\n      version: 1.0.0\n  default:\n    c:\n      specifier: ^2.0.0\n      version: 2.0.0\n\noverrides:\n  a>b: '-'\n  b: ^3.0.0\n\nimporters:\n\n  apps/web:\n    dependencies:\n      other:\n        specifier: npm:c@2.0.0\n        version: c@2.0.0\n    devDependencies:\n      c:\n        specifier: catalog:a\n        version: 1.0.0\n    optionalDependencies:\n      o:\n        specifier: ~1.0.0\n        version: 1.0.0+build\n\n  apps/web/lib:\n    dependencies:\n      web:\n        specifier: link:..\n        version: link:..\n\n  lib:\n    dependencies:\n      web:\n        specifier: workspace:*\n        version: link:../apps/web\n\npackages:\n\n  '@s/p@1.0.0-rc.1':\n    resolution: {integrity: sha512-z4PhNX7vuL3xVChQ1m2AB9Yg5AULVxXcg/SpIdNs6c5H0NE8XYXysP+DGNKHfuwvY7kxvUdBeoGlODJ6+SfaPg==}\n    peerDependencies:\n      c: ^1.0.0 || ^2.0.0\n      z: '*'\n    peerDependenciesMeta:\n      z:\n        optional: true\n\n  c@1.0.0:\n    resolution: {integrity: sha512-z4PhNX7vuL3xVChQ1m2AB9Yg5AULVxXcg/SpIdNs6c5H0NE8XYXysP+DGNKHfuwvY7kxvUdBeoGlODJ6+SfaPg==}\n\n  c@2.0.0:\n    resolution: {integrity: sha512-z4PhNX7vuL3xVChQ1m2AB9Yg5AULVxXcg/SpIdNs6c5H0NE8XYXysP+DGNKHfuwvY7kxvUdBeoGlODJ6+SfaPg==}\n\n  o@1.0.0+build:\n    resolution: {integrity: sha512-z4PhNX7vuL3xVChQ1m2AB9Yg5AULVxXcg/SpIdNs6c5H0NE8XYXysP+DGNKHfuwvY7kxvUdBeoGlODJ6+SfaPg==}\n\nsnapshots:\n\n  '@s/p@1.0.0-rc.1(c@1.0.0)':\n    dependencies:\n      c: 1.0.0\n      lib: link:lib\n    optionalDependencies:\n      d: c@2.0.0\n    transitivePeerDependencies:\n      - react\n      - z\n\n  c@1.0.0: {}\n\n  c@2.0.0:\n    dependencies:\n      '@s/p': 1.0.0-rc.1(c@1.0.0)\n\n  o@1.0.0+build: {}\n"
 unfolding encode_symbols
 every_form_printed = refl
+
+-- one entry of each list
+abbrev pub one_of_each : Locked
+one_of_each = locked false
+    (entry (codes "default") (codes "c") (codes "^2.0.0") (codes "2.0.0") ∷ [])
+    (rule (codes "a>b") (codes "-") ∷ [])
+    (importer (codes "lib") (dependency (codes "other") (codes "npm:c@2.0.0") (goal.Snapshot 0) ∷ []) (dependency (codes "self") (codes "link:.") (goal.Importer 0) ∷ []) [] ∷ [])
+    (packed (codes "c@2.0.0") (peer (codes "z") (codes "*") ∷ []) (codes "z" ∷ []) ∷ [])
+    (snapshot (codes "c@2.0.0(z@1.0.0)") (link (codes "lib") (goal.Importer 0) ∷ []) (link (codes "d") (goal.Snapshot 0) ∷ []) (codes "react" ∷ []) ∷ [])
+
+pub one_of_each_printed : printed (lock_data one_of_each) ≡ codes "lockfileVersion: '9.0'\n\nsettings:\n  autoInstallPeers: false\n  excludeLinksFromLockfile: false\n\ncatalogs:\n  default:\n    c:\n      specifier: ^2.0.0\n      version: 2.0.0\n\noverrides:\n  a>b: '-'\n\nimporters:\n\n  lib:\n    dependencies:\n      other:\n        specifier: npm:c@2.0.0\n        version: c@2.0.0(z@1.0.0)\n    devDependencies:\n      self:\n        specifier: link:.\n        version: link:.\n\npackages:\n\n  c@2.0.0:\n    resolution: {integrity: sha512-z4PhNX7vuL3xVChQ1m2AB9Yg5AULVxXcg/SpIdNs6c5H0NE8XYXysP+DGNKHfuwvY7kxvUdBeoGlODJ6+SfaPg==}\n    peerDependencies:\n      z: '*'\n    peerDependenciesMeta:\n      z:\n        optional: true\n\nsnapshots:\n\n  c@2.0.0(z@1.0.0):\n    dependencies:\n      lib: link:lib\n    optionalDependencies:\n      d: c@2.0.0(z@1.0.0)\n    transitivePeerDependencies:\n      - react\n"
+unfolding encode_symbols
+one_of_each_printed = refl

@@ -21,3 +21,6 @@ mod whole;
 
 pub use laws::lock_law;
 pub use whole::print;
+
+#[cfg(test)]
+mod tests;
