@@ -1,5 +1,5 @@
 -- The worked locks keep what locks keep.
-use Rattle.std.proofs.Common.{◌≡◌, ◌<◌, ℕ, zero, suc, Bool, List, [], ◌∷◌, true, refl, sym, ap, ◌∙◌, subst, arith}
+use Rattle.std.proofs.Common.{◌≡◌, ◌<◌, ℕ, zero, suc, Bool, List, [], ◌∷◌, ◌++◌, true, refl, sym, ap, ◌∙◌, subst, arith}
 use Rattle.std.specs.Prelude.{nat_lt, slice_index}
 use Rattle.std.specs.List.{list_all}
 use Rattle.std.specs.List.Sorted.{IsStrictlySortedBy}
@@ -16,6 +16,13 @@ use Rattle.pn_lock.specs.declared.lists.Override.{Override}
 use Rattle.pn_lock.specs.Kept.{IsLock}
 use Rattle.pn_lock.specs.Locks.{Locked, locked}
 use Rattle.pn_lock_print.specs.LockSamples.{digest_of_none, one_of_each, two_packages}
+
+-- lists of one item, and of two
+pub one_is : {A : Type 0} (xs : List A) (x y : A) → xs ≡ x ∷ [] → x ≡ y → xs ≡ y ∷ []
+one_is xs x y h e = h ∙ ap (λ z. z ∷ []) e
+
+pub two_is : {A : Type 0} (zs xs : List A) (x y a b : A) → zs ≡ xs ++ y ∷ [] → xs ≡ x ∷ [] → x ≡ a → y ≡ b → zs ≡ a ∷ b ∷ []
+two_is zs xs x y a b h k e f = h ∙ ap (λ l. l ++ y ∷ []) (one_is xs x a k e) ∙ ap (λ z. a ∷ z ∷ []) f
 
 -- lists that are those of a lock
 pub made : (l : Locked) (auto : Bool) (cs : List LockCatalog) (os : List Override) (is : List LockImporter) (ps : List LockPackage) (ss : List LockSnapshot) → IsLock l

@@ -40,9 +40,23 @@ impl Entry for LockImporter {
         let dev = self.dev.as_slice();
         let optional = self.optional.as_slice();
         let mut members = Items::new(alloc);
-        push_filled(alloc, &mut members, "dependencies", lock, base, dependencies)?;
+        push_filled(
+            alloc,
+            &mut members,
+            "dependencies",
+            lock,
+            base,
+            dependencies,
+        )?;
         push_filled(alloc, &mut members, "devDependencies", lock, base, dev)?;
-        push_filled(alloc, &mut members, "optionalDependencies", lock, base, optional)?;
+        push_filled(
+            alloc,
+            &mut members,
+            "optionalDependencies",
+            lock,
+            base,
+            optional,
+        )?;
         Ok(Node::Map(members))
     }
 }

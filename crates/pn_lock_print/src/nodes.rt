@@ -31,7 +31,12 @@ pub(crate) fn pair_node(alloc: Global, specifier: &str, version: &str) -> Result
     ensures { IfOk result (λ n. view n ≡ pair_data specifier.now version.now) }
 {
     let mut members = Items::new(alloc);
-    push_member(alloc, &mut members, "specifier", text_node(alloc, specifier)?)?;
+    push_member(
+        alloc,
+        &mut members,
+        "specifier",
+        text_node(alloc, specifier)?,
+    )?;
     push_member(alloc, &mut members, "version", text_node(alloc, version)?)?;
     Ok(Node::Map(members))
 }

@@ -60,7 +60,14 @@ impl Entry for LockPackage {
         let mut members = Items::new(alloc);
         push_member(alloc, &mut members, "resolution", resolution)?;
         push_filled(alloc, &mut members, "peerDependencies", lock, base, peers)?;
-        push_filled(alloc, &mut members, "peerDependenciesMeta", lock, base, optional)?;
+        push_filled(
+            alloc,
+            &mut members,
+            "peerDependenciesMeta",
+            lock,
+            base,
+            optional,
+        )?;
         Ok(Node::Map(members))
     }
 }
@@ -70,6 +77,11 @@ fn resolution_node(alloc: Global, integrity: &Integrity) -> Result<Node, Memory>
 {
     let text = integrity.print(alloc)?;
     let mut members = Items::new(alloc);
-    push_member(alloc, &mut members, "integrity", text_node(alloc, text.as_str())?)?;
+    push_member(
+        alloc,
+        &mut members,
+        "integrity",
+        text_node(alloc, text.as_str())?,
+    )?;
     Ok(Node::Map(members))
 }

@@ -44,7 +44,14 @@ impl Entry for LockSnapshot {
         let optional = self.optional.as_slice();
         let mut members = Items::new(alloc);
         push_filled(alloc, &mut members, "dependencies", lock, ".", dependencies)?;
-        push_filled(alloc, &mut members, "optionalDependencies", lock, ".", optional)?;
+        push_filled(
+            alloc,
+            &mut members,
+            "optionalDependencies",
+            lock,
+            ".",
+            optional,
+        )?;
         push_transitive(alloc, &mut members, self.transitive.as_slice())?;
         Ok(Node::Map(members))
     }
