@@ -35,7 +35,7 @@ fn line(alloc: Global, peer: &Peer) -> Result<String, Fail> {
     line.push_str(peer.text.as_str())?;
     line.push_str(if peer.optional { "?" } else { "" })?;
     for text in ["1.0.0", "2.1.0", "3.0.0"] {
-        let version = Version::parse(text)?;
+        let version = Version::parse(alloc, text)?;
         if peer.range.holds(&version) {
             line.push_str(" ")?;
             line.push_str(text)?;
