@@ -1,0 +1,6 @@
+mod FoundLemmas
+mod ExploreLemmas
+mod EdgeLemmas
+mod HolderLemmas
+mod PairLemmas
+mod OuterLemmas

@@ -1,0 +1,1 @@
+// Outer pairs of small graphs.
