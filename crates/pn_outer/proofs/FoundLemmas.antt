@@ -1,5 +1,6 @@
 -- Instances as they are met.
-use Rattle.std.proofs.Common.{◌≡◌, ◌<◌, ℕ, zero, suc, ◌+◌, Bool, true, false, List, [], ◌∷◌, ◌++◌, length, take, get_or, set, replicate, inl, inr, ◌⊎◌, refl, sym, ap, ◌∙◌, subst, arith, append_assoc, length-append}
+use Rattle.std.proofs.Math.Seq.{take-length}
+use Rattle.std.proofs.Common.{◌≡◌, ◌<◌, ◌≤◌, ℕ, zero, suc, ◌+◌, Bool, true, false, List, [], ◌∷◌, ◌++◌, length, take, get_or, set, replicate, inl, inr, ◌⊎◌, refl, sym, ap, ◌∙◌, subst, arith, append_assoc, length-append}
 use Rattle.std.specs.Prelude.{slice_get}
 use Rattle.std.specs.List.{Contains}
 use Rattle.std.proofs.lemmas.Bool.{cases_Bool, cases_eq}
@@ -7,7 +8,7 @@ use Rattle.std.proofs.lemmas.Option.{slice_get-get_or}
 use Rattle.std.proofs.lemmas.List.{take_more, get_or-set_same, get_or-set_other, length-set, length-replicate}
 use Rattle.std.proofs.lemmas.List.Elements.{Contains-push, Contains-push_cases, Contains-append_left, Contains-append_cases}
 use Rattle.pn_text.proofs.Members.{here, in_one, none_in}
-use Rattle.pn_outer.specs.Instances.{Instance, Link, deps_at, deps_of, has_alias}
+use Rattle.pn_outer.specs.Instances.{Instance, Link, deps_at, deps_of, has_alias, peers_at, peers_of}
 use Rattle.pn_outer.specs.Founds.{AddsAll, IsMarked, IsOpen, unmarked}
 
 unmarked-replicate : (n : ℕ) → unmarked (replicate n false) ≡ n
@@ -118,6 +119,9 @@ open_next instances name row i a b c lt f s =
 pub deps_there : (instances : List Instance) (i : ℕ) (d : Instance) → i < length instances → deps_at instances i ≡ (get_or instances i d).deps
 deps_there instances i d h = ap deps_of (slice_get-get_or instances i d h)
 
+pub peers_there : (instances : List Instance) (i : ℕ) (d : Instance) → i < length instances → peers_at instances i ≡ (get_or instances i d).peers
+peers_there instances i d h = ap peers_of (slice_get-get_or instances i d h)
+
 -- an instance whose package has the alias isn't met
 pub shut : (instances : List Instance) (name : List ℕ) (at : ℕ) (links : List Link) (a : List ℕ) → links ≡ deps_at instances at → has_alias name links ≡ true → AddsAll (IsOpen instances name (at ∷ [])) a a
 shut instances name at links a is h = adds_none (IsOpen instances name (at ∷ [])) a (λ k o. absurd (never k o)) where
@@ -164,7 +168,7 @@ pub cleared : (seen new : List Bool) (order : List ℕ) → IsMarked seen order 
 cleared seen new order m none kept =
     let all : (k : ℕ) → get_or new k false ≡ false = λ k. elim (cases_Bool (get_or seen k false)) [ inl e ↦ none k (m.listed k e) | inr e ↦ kept k e ] in
     record {
-      once = unmarked_all new all;
+      once = omega (arith, unmarked_all new all);
       listed = λ k e. absurd (let f = all k in cc (e, f));
       marked = λ k c. absurd (none_in k c);
     }
@@ -177,3 +181,7 @@ marked_within (b ∷ bs) (suc k) e = let h = marked_within bs k e in omega arith
 
 pub all_within : (seen : List Bool) (order : List ℕ) → IsMarked seen order → (k : ℕ) → Contains order k → k < length seen
 all_within seen order m k c = marked_within seen k (m.marked k c)
+
+-- a loop's end
+pub whole : {X : Type 0} (xs : List X) (i : ℕ) → i ≤ length xs → length xs ≤ i → take i xs ≡ xs
+whole xs i a b = let same : length xs ≡ i = omega (arith, a, b) in subst (λ (n : ℕ). take n xs ≡ xs) same (take-length xs)

@@ -20,7 +20,8 @@ pub(crate) fn dependents(alloc: Global, instances: &[Instance]) -> Result<Vec<Ve
     for (i, instance) in instances.iter().enumerate() {
         push_edges(&mut edges, i as u32, instance.deps.as_slice())?;
     }
-    targets(alloc, instances.len() as u32, &edges)
+    let rows = targets(alloc, instances.len() as u32, &edges)?;
+    Ok(rows)
 }
 
 // The links from an instance to others, turned round.

@@ -107,10 +107,11 @@ impl Found {
 }
 
 // Takes away the marks of these places.
-fn unmark(seen: &mut [bool], order: &[u32])
-    requires { (k : ℕ) → Contains order.now k → k < length seen.old }
-    ensures none { (k : ℕ) → Contains order.now k → get_or seen.new k false ≡ false }
-    ensures kept { (k : ℕ) → get_or seen.old k false ≡ false → get_or seen.new k false ≡ false }
+fn unmark(seen: &mut Vec<bool>, order: &[u32])
+    requires { (k : ℕ) → Contains order.now k → k < length seen.old.items }
+    ensures none { (k : ℕ) → Contains order.now k → get_or seen.new.items k false ≡ false }
+    ensures kept { (k : ℕ) → get_or seen.old.items k false ≡ false → get_or seen.new.items k false ≡ false }
+    ensures count { length seen.new.items ≡ length seen.old.items }
 {
     for at in order {
         seen[*at as usize] = false;

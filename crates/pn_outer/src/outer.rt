@@ -4,7 +4,9 @@ ghost use Rattle.std.specs.List.{Contains};
 ghost use Rattle.pn_components.specs.Rows.{rows_of};
 ghost use Rattle.pn_outer.specs.Founds.{AddsPair, AreNone};
 ghost use Rattle.pn_outer.specs.Instances.{AreInRange};
+ghost use Rattle.pn_outer.specs.Dependents.{AreDependents};
 ghost use Rattle.pn_outer.specs.Outer.{AreOuter};
+ghost use Rattle.pn_outer.specs.Provisions.{AreProvided};
 
 use crate::dependents::dependents;
 use crate::found::Found;
@@ -29,23 +31,42 @@ pub fn outer_pairs(alloc: Global, instances: &[Instance]) -> Result<Outer, Memor
 {
     let provided = provided_peers(alloc, instances)?;
     let dependents = dependents(alloc, instances)?;
-    let mut found = Found::new(alloc, instances.len())?;
-    let mut rows = none(alloc, instances.len())?;
-    for (p, pair) in provided.pairs.iter().enumerate() {
-        spread(
-            instances,
-            &dependents,
-            provided.holders[p].as_slice(),
-            &pair.name,
-            &mut found,
-        )?;
-        add(&mut rows, p, &found.order)?;
-        found.clear();
-    }
+    let rows = numbers(
+        alloc,
+        instances,
+        &provided.pairs,
+        &provided.holders,
+        &dependents,
+    )?;
     Ok(Outer {
         pairs: provided.pairs,
         rows,
     })
+}
+
+// For each instance the numbers of its outer pairs.
+fn numbers(
+    alloc: Global,
+    instances: &[Instance],
+    pairs: &[Link],
+    holders: &[Vec<u32>],
+    dependents: &[Vec<u32>],
+) -> Result<Vec<Vec<usize>>, Memory>
+    requires pairs { length holders.now ≡ length pairs.now }
+    requires count { length dependents.now ≡ length instances.now }
+    requires provided { AreProvided instances.now pairs.now (rows_of holders.now) }
+    requires dependents { AreDependents instances.now (rows_of dependents.now) }
+    ensures { IfOk result (λ rows. AreOuter instances.now pairs.now (rows_of rows.items)) }
+{
+    let mut found = Found::new(alloc, instances.len())?;
+    let mut rows = none(alloc, instances.len())?;
+    for (p, pair) in pairs.iter().enumerate() {
+        let holders = holders[p].as_slice();
+        spread(instances, dependents, holders, &pair.name, &mut found)?;
+        add(&mut rows, p, &found.order)?;
+        found.clear();
+    }
+    Ok(rows)
 }
 
 // No pairs for that many instances.

@@ -56,8 +56,14 @@ impl Provisions {
         ensures adds { OnOk result (AddsHolder to link.now self.old.pairs.items (rows_of self.old.holders.items) self.new.pairs.items (rows_of self.new.holders.items)) }
     {
         match self.place(link) {
-            Some(place) => self.hold(place, to),
-            None => self.push(alloc, to, link),
+            Some(place) => {
+                self.hold(place, to)?;
+                Ok(())
+            }
+            None => {
+                self.push(alloc, to, link)?;
+                Ok(())
+            }
         }
     }
 
