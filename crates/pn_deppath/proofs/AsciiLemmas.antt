@@ -1,5 +1,5 @@
 -- Names are bytes below 128.
-use Rattle.std.proofs.Common.{◌≡◌, ◌<◌, ℕ, zero, suc, List, [], ◌∷◌, ◌++◌, length, get_or, take, true, false, cond, refl, arith}
+use Rattle.std.proofs.Common.{◌≡◌, ◌<◌, ℕ, zero, suc, List, [], ◌∷◌, ◌++◌, length, get_or, map, take, true, false, cond, refl, arith}
 use Rattle.std.specs.Prelude.{◌==◌, ◌&&◌, ◌||◌, nat_lt}
 use Rattle.std.specs.List.{list_all}
 use Rattle.std.specs.Str.{IsAscii}
@@ -10,6 +10,8 @@ use Rattle.hex.specs.Hex.{encode_lower, lower_digits}
 use Rattle.hex.proofs.HexLemmas.{IsAscii-encode_with}
 use Rattle.sha2.specs.Sha256.{sha256}
 use Rattle.pn_text.specs.declared.limits.TheConstants.{ID_LIMIT}
+use Rattle.pn_text.specs.Name.{is_name_byte}
+use Rattle.pn_deppath.specs.Groups.{folder_byte}
 use Rattle.pn_text.proofs.Bools.{and_left, and_right}
 use Rattle.pn_text.proofs.Members.{all-append}
 use Rattle.pn_deppath.specs.Folders.{fitted, is_ascii, plain_name, spelled, spelled_behind, spelled_byte, without_last_close}
@@ -51,10 +53,14 @@ spelled_ascii before (b ∷ rest) h =
 digits_ascii : IsAscii lower_digits
 digits_ascii i = grind (arith, nat_tests)
 
+-- the first digits of a SHA-256
+pub hash_ascii : (bytes : List ℕ) → list_all is_ascii (take 32 (encode_lower (sha256 bytes))) ≡ true
+hash_ascii bytes = take_ascii 32 (encode_lower (sha256 bytes)) (all_below (encode_lower (sha256 bytes)) (IsAscii-encode_with lower_digits (sha256 bytes) digits_ascii))
+
 fitted_ascii : (path name : List ℕ) → list_all is_ascii name ≡ true → list_all is_ascii (fitted path name) ≡ true
 unfolding fitted
 fitted_ascii path name h =
-    let digits = take_ascii 32 (encode_lower (sha256 path)) (all_below (encode_lower (sha256 path)) (IsAscii-encode_with lower_digits (sha256 path) digits_ascii)) in
+    let digits = hash_ascii path in
     elim (nat_lt ID_LIMIT (length name)) as (λ o. list_all is_ascii (cond o (take 87 name ++ 95 ∷ take 32 (encode_lower (sha256 path))) name) ≡ true) [
       | true ↦ all-append is_ascii (take 87 name) (95 ∷ take 32 (encode_lower (sha256 path))) (take_ascii 87 name h) digits
       | false ↦ h
@@ -63,3 +69,15 @@ fitted_ascii path name h =
 pub plain_ascii : (path : List ℕ) → list_all is_ascii path ≡ true → list_all is_ascii (plain_name path) ≡ true
 unfolding plain_name
 plain_ascii path h = fitted_ascii path (spelled (without_last_close path)) (spelled_ascii 0 (without_last_close path) (close_ascii path h))
+
+-- ---- a folder in a project's text
+
+name_ascii : (b : ℕ) → is_name_byte b ≡ true → is_ascii b ≡ true
+name_ascii b h = grind (arith, nat_tests)
+
+folder_byte_ascii : (b : ℕ) → is_ascii (folder_byte b) ≡ true
+folder_byte_ascii b = (elim (is_name_byte b) as (λ o. is_name_byte b ≡ o → is_ascii (cond o b 43) ≡ true) [ true ↦ λ e. name_ascii b e | false ↦ λ e. refl ]) refl
+
+pub folder_ascii : (xs : List ℕ) → list_all is_ascii (map folder_byte xs) ≡ true
+folder_ascii [] = refl
+folder_ascii (b ∷ xs) = both_true (folder_byte_ascii b) (folder_ascii xs)

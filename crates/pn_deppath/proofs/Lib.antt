@@ -6,5 +6,6 @@ mod AsciiLemmas
 mod SpelledLemmas
 mod NumberingLemmas
 mod NumberLemmas
+mod OrdinalLemmas
 mod CountLemmas
 mod FolderLemmas

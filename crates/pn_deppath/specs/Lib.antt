@@ -4,3 +4,6 @@ pub mod Paths
 pub mod Folders
 pub mod PathLaw
 pub mod Numbers
+pub mod Ordinals
+pub mod Groups
+pub mod Bases

@@ -1,5 +1,6 @@
 // Laws of dep paths and folder names.
 ghost use Rattle.pn_deppath.specs.Folders.{FolderLaw};
+ghost use Rattle.pn_deppath.specs.Ordinals.{OrdinalLaw};
 ghost use Rattle.pn_deppath.specs.PathLaw.{PathLaw};
 
 /// No two of some dep paths have one folder's name, whatever their digests are.
@@ -11,4 +12,9 @@ pub fn folder_law()
 /// one.
 pub fn path_law()
     ensures { PathLaw }
+{}
+
+/// Fewer than 2^32 texts without `~` are told apart by their ordinals, whatever the texts are.
+pub fn ordinal_law()
+    ensures { OrdinalLaw }
 {}

@@ -9,13 +9,17 @@
 
 mod ascii;
 mod folder;
+mod groups;
 mod laws;
 mod names;
+mod ordinals;
 mod path;
 mod plain;
 
 pub use folder::folder_names;
-pub use laws::{folder_law, path_law};
+pub use groups::{project_text, shortened};
+pub use laws::{folder_law, ordinal_law, path_law};
+pub use ordinals::with_ordinals;
 pub use path::{base_path, is_dep_path, split_path};
 
 #[cfg(test)]

@@ -64,7 +64,8 @@ pub(crate) fn next_name(
     Ok(text)
 }
 
-fn last_of(numbers: &Numbers, name: &str) -> u64
+/// The last ordinal of a name.
+pub(crate) fn last_of(numbers: &Numbers, name: &str) -> u64
     ensures { result ≡ last_of numbers.now name.now }
 {
     match numbers.get(name) {

@@ -73,8 +73,8 @@ fn fitted(alloc: Global, path: &[u8], name: Vec<u8>) -> Result<Vec<u8>, Memory>
     Ok(short)
 }
 
-// The first hex digits of the bytes' SHA-256.
-fn first_digits(bytes: &[u8]) -> [u8; 32]
+/// The first hex digits of the bytes' SHA-256.
+pub(crate) fn first_digits(bytes: &[u8]) -> [u8; 32]
     ensures { result ≡ take 32 (encode_lower (sha256 bytes.now)) }
 {
     first_32(&digits(bytes))
