@@ -9,7 +9,6 @@ use Rattle.pn_outer.specs.declared.instance.Goal.{Goal}
 use Rattle.pn_outer.specs.declared.instance.Goal.TheVariants.{Project as to_project, Inst as to_instance}
 use Rattle.pn_outer.specs.declared.instance.Link.{Link}
 use Rattle.pn_outer.specs.declared.instance.Instance.{Instance}
-use Rattle.pn_outer.specs.Instances.{peers_at}
 use Rattle.pn_outer.specs.Outer.{IsOuter}
 use Rattle.pn_deppath.specs.Groups.{joined, project_text, shortened}
 
@@ -55,15 +54,6 @@ pub record IsBase (instances : List Instance) (folders texts : List (List ℕ)) 
 pub record AreBases (instances : List Instance) (folders texts : List (List ℕ)) : Type 0 where
   pub count : length texts ≡ length instances
   pub each : (i : ℕ) → i < length instances → IsBase instances folders texts i
-
--- what a link leads to is there
-abbrev pub IsThere : ℕ → ℕ → Goal → Type 0
-IsThere instances folders (to_project q) = q.0 < folders
-IsThere instances folders (to_instance j) = j.0 < instances
-
--- what the provided peers lead to is there
-abbrev pub ArePeersThere : List Instance → List (List ℕ) → Type 0
-ArePeersThere instances folders = (i : ℕ) (pair : Link) → Contains (peers_at instances i) pair → IsThere (length instances) (length folders) pair.to
 
 -- ---- by the numbers of components
 

@@ -4,3 +4,4 @@ mod EdgeLemmas
 mod HolderLemmas
 mod PairLemmas
 mod OuterLemmas
+mod RangeLemmas

@@ -1,6 +1,6 @@
 -- Instances and their links.
-use Rattle.std.specs.Prelude.{◌≡◌, ◌<◌, ℕ, List, [], Bool, Option, Some, None, length, slice_get}
-use Rattle.std.specs.List.{Contains, list_any}
+use Rattle.std.specs.Prelude.{◌≡◌, ◌<◌, ◌&&◌, nat_lt, ℕ, List, [], Bool, Option, Some, None, length, slice_get}
+use Rattle.std.specs.List.{Contains, list_all, list_any}
 use Rattle.std.specs.Str.{bytes_eq}
 pub use Rattle.pn_outer.specs.declared.instance.Goal.{Goal}
 pub use Rattle.pn_outer.specs.declared.instance.Goal.TheVariants.{Project as to_project, Inst as to_instance}
@@ -38,3 +38,22 @@ DependsOn instances i j = LeadsTo (deps_at instances i) j
 -- each dependency is one of the instances
 abbrev pub AreInRange : List Instance → Type 0
 AreInRange instances = (i j : ℕ) → DependsOn instances i j → j < length instances
+
+-- what a link leads to is there
+abbrev pub IsThere : ℕ → ℕ → Goal → Type 0
+IsThere instances projects (to_project q) = q.0 < projects
+IsThere instances projects (to_instance j) = j.0 < instances
+
+-- each provided peer is one of the instances or of that many projects
+abbrev pub ArePeersThere : ℕ → List Instance → Type 0
+ArePeersThere projects instances = (i : ℕ) (pair : Link) → Contains (peers_at instances i) pair → IsThere (length instances) projects pair.to
+
+abbrev pub goal_there : ℕ → ℕ → Goal → Bool
+goal_there instances projects (to_project q) = nat_lt q.0 projects
+goal_there instances projects (to_instance j) = nat_lt j.0 instances
+
+abbrev pub is_there : ℕ → ℕ → Link → Bool
+is_there instances projects link = goal_there instances projects link.to
+
+abbrev pub are_there : ℕ → ℕ → Instance → Bool
+are_there instances projects i = list_all (is_there instances projects) i.deps && list_all (is_there instances projects) i.peers

@@ -18,11 +18,13 @@ mod instance;
 mod laws;
 mod outer;
 mod provided;
+mod range;
 mod spread;
 
 pub use instance::{Goal, Instance, Link, Links};
 pub use laws::outer_law;
 pub use outer::{Outer, outer_pairs};
+pub use range::are_in_range;
 
 #[cfg(test)]
 mod tests;
