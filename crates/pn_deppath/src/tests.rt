@@ -3,7 +3,9 @@ ghost use Rattle.std.specs.Prelude.{◌≡◌, IfOk, true};
 ghost use Rattle.std.specs.List.{list_all};
 ghost use Rattle.pn_deppath.specs.Folders.{is_ascii};
 
-use crate::{base_path, folder_names, is_dep_path};
+use crate::{
+    base_path, folder_names, is_dep_path, project_text, shortened, with_ordinals,
+};
 use pn_text::{PkgName, Text};
 use std::alloc::Global;
 use std::test::Fail;
@@ -74,5 +76,50 @@ fn dep_paths_are_ids_with_balanced_groups(rt: HostRuntime) -> Result<(), Fail> {
     }
     let name = PkgName::read(alloc, "@s/a")?;
     assert_eq!(rt; base_path(alloc, &name, "1.0.0")?.as_str(), "@s/a@1.0.0");
+    Ok(())
+}
+
+#[test]
+fn projects_are_named_by_their_folders(rt: HostRuntime) -> Result<(), Fail> {
+    let alloc = rt.alloc();
+    let name = PkgName::read(alloc, "@s/q")?;
+    let folder = Text::of(alloc, "packages/q r_2.0")?;
+    let text = project_text(alloc, &name, &folder)?;
+    assert_eq!(rt; text.as_str(), "@s/q@link:packages+q+r_2.0");
+    Ok(())
+}
+
+#[test]
+fn long_groups_become_digits(rt: HostRuntime) -> Result<(), Fail> {
+    let alloc = rt.alloc();
+    let mut groups = String::new(alloc);
+    for _ in 0..100 {
+        groups.push_str("(p@1.0.0)(")?;
+    }
+    let same = groups.clone()?;
+    let short = shortened(alloc, same)?;
+    assert_eq!(rt; short.as_str(), groups.as_str());
+    groups.push_str(")")?;
+    let long = shortened(alloc, groups)?;
+    assert_eq!(rt; long.as_str(), "(7f71b539d1dbf1b36937c987e5491f55)");
+    Ok(())
+}
+
+#[test]
+fn equal_texts_have_ordinals(rt: HostRuntime) -> Result<(), Fail> {
+    let alloc = rt.alloc();
+    let texts = vec![
+        in alloc;
+        Text::of(alloc, "y@1.0.0")?,
+        Text::of(alloc, "p@1.0.0")?,
+        Text::of(alloc, "y@1.0.0")?,
+        Text::of(alloc, "y@1.0.0")?
+    ]?;
+    let paths = with_ordinals(alloc, &texts)?;
+    let wanted = ["y@1.0.0", "p@1.0.0", "y@1.0.0(~2)", "y@1.0.0(~3)"];
+    assert!(rt; paths.len() == 4);
+    for (i, path) in wanted.iter().enumerate() {
+        assert_eq!(rt; paths[i].as_str(), *path);
+    }
     Ok(())
 }
