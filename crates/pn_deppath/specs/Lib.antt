@@ -6,4 +6,3 @@ pub mod PathLaw
 pub mod Numbers
 pub mod Ordinals
 pub mod Groups
-pub mod Bases
