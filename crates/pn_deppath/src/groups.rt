@@ -42,7 +42,7 @@ fn folder_byte(b: u8) -> u8
 }
 
 /// The groups in parentheses, one after the other.
-pub(crate) fn joined(alloc: Global, groups: &[Text]) -> Result<String, Memory>
+pub fn joined(alloc: Global, groups: &[Text]) -> Result<String, Memory>
     ensures { IfOk result (λ text. string_bytes text ≡ joined groups.now) }
 {
     let mut text = String::new(alloc);

@@ -3,9 +3,7 @@ ghost use Rattle.std.specs.Prelude.{◌≡◌, IfOk, true};
 ghost use Rattle.std.specs.List.{list_all};
 ghost use Rattle.pn_deppath.specs.Folders.{is_ascii};
 
-use crate::{
-    base_path, folder_names, is_dep_path, project_text, shortened, with_ordinals,
-};
+use crate::{base_path, folder_names, is_dep_path, project_text, shortened, with_ordinals};
 use pn_text::{PkgName, Text};
 use std::alloc::Global;
 use std::test::Fail;
@@ -108,12 +106,11 @@ fn long_groups_become_digits(rt: HostRuntime) -> Result<(), Fail> {
 #[test]
 fn equal_texts_have_ordinals(rt: HostRuntime) -> Result<(), Fail> {
     let alloc = rt.alloc();
-    let texts = vec![
-        in alloc;
+    let texts = vec![in alloc;
         Text::of(alloc, "y@1.0.0")?,
         Text::of(alloc, "p@1.0.0")?,
         Text::of(alloc, "y@1.0.0")?,
-        Text::of(alloc, "y@1.0.0")?
+        Text::of(alloc, "y@1.0.0")?,
     ]?;
     let paths = with_ordinals(alloc, &texts)?;
     let wanted = ["y@1.0.0", "p@1.0.0", "y@1.0.0(~2)", "y@1.0.0(~3)"];

@@ -36,7 +36,7 @@ edges_all : (from : ℕ) (links : List Link) (j : ℕ) → LeadsTo links j → C
 edges_all from [] j h = absurd (none_in h.link h.has)
 edges_all from (l ∷ ls) j h = elim (in_cons l ls h.link h.has) [
   | inl e ↦ Contains-append_left (edge_of from l.to) (edges_of from ls) (j, from)
-  (subst (λ (es : Edges). Contains es (j, from)) (sym (ap (edge_of from) (ap (λ (x : Link). x.to) e ∙ h.to))) (here (j, from) []))
+      (subst (λ (es : Edges). Contains es (j, from)) (sym (ap (edge_of from) (ap (λ (x : Link). x.to) e ∙ h.to))) (here (j, from) []))
   | inr r ↦ Contains-append_right (edge_of from l.to) (edges_of from ls) (j, from) (edges_all from ls j (record { link = h.link; has = r; to = h.to }))
 ]
 
@@ -56,7 +56,7 @@ more_edges instances n old new h is = record {
   all = λ j k lt d. subst (λ (es : Edges). Contains es (j, k)) (sym is) (elim (split_less k n lt) [
     | inl low ↦ Contains-append_left old (edges_of n (deps_at instances n)) (j, k) (h.all j k low d)
     | inr same ↦ Contains-append_right old (edges_of n (deps_at instances n)) (j, k)
-    (subst (λ (x : ℕ). Contains (edges_of n (deps_at instances n)) (j, x)) (sym same) (edges_all n (deps_at instances n) j (subst (λ (x : ℕ). DependsOn instances x j) same d)))
+        (subst (λ (x : ℕ). Contains (edges_of n (deps_at instances n)) (j, x)) (sym same) (edges_all n (deps_at instances n) j (subst (λ (x : ℕ). DependsOn instances x j) same d)))
   ]);
 }
 

@@ -26,7 +26,7 @@ holder_more i pair pairs holders new place at within is =
         at = h.at;
         holds = elim (cases_eq h.number place) [
           | inl e ↦ subst (λ (r : List ℕ). Contains r k) (sym (ap (λ (p : ℕ). get_or new p []) e ∙ mine))
-          (Contains-append_left (get_or holders place []) (i ∷ []) k (subst (λ (p : ℕ). Contains (get_or holders p []) k) e h.holds))
+              (Contains-append_left (get_or holders place []) (i ∷ []) k (subst (λ (p : ℕ). Contains (get_or holders p []) k) e h.holds))
           | inr ne ↦ subst (λ (r : List ℕ). Contains r k) (sym (other h.number ne)) h.holds
         ];
       };

@@ -33,7 +33,7 @@ one_pair pair at old new within is =
     record {
       kept = λ i p c. elim (cases_eq i at) [
         | inl e ↦ subst (λ (r : List ℕ). Contains r p) (sym (ap (λ (k : ℕ). get_or new k []) e ∙ mine))
-        (Contains-append_left (get_or old at []) (pair ∷ []) p (subst (λ (k : ℕ). Contains (get_or old k []) p) e c))
+            (Contains-append_left (get_or old at []) (pair ∷ []) p (subst (λ (k : ℕ). Contains (get_or old k []) p) e c))
         | inr ne ↦ subst (λ (r : List ℕ). Contains r p) (sym (other i ne)) c
       ];
       added = λ i e. subst (λ (r : List ℕ). Contains r pair) (sym (ap (λ (k : ℕ). get_or new k []) e ∙ mine)) (Contains-push (get_or old at []) pair);

@@ -32,33 +32,66 @@ fn at(place: u32) -> Goal {
     Goal::Inst(InstIx(place))
 }
 
+// x with two peer contexts and y with two, each of which depends on the other; z on x, with a project as its peer.
+fn graph(alloc: Global) -> Result<Vec<Instance>, Fail> {
+    let mut all = Vec::new(alloc);
+    add(&mut all, alloc, "p@1.0.0", &[], &[])?;
+    add(&mut all, alloc, "p@2.0.0", &[], &[])?;
+    add(&mut all, alloc, "x@1.0.0", &[("y", at(5))], &[("p", at(0))])?;
+    add(&mut all, alloc, "x@1.0.0", &[("y", at(4))], &[("p", at(1))])?;
+    add(
+        &mut all,
+        alloc,
+        "y@1.0.0",
+        &[("p", at(1)), ("x", at(3))],
+        &[],
+    )?;
+    add(
+        &mut all,
+        alloc,
+        "y@1.0.0",
+        &[("p", at(1)), ("x", at(2))],
+        &[],
+    )?;
+    let project = Goal::Project(ProjIx(0));
+    add(
+        &mut all,
+        alloc,
+        "z@1.0.0",
+        &[("x", at(2))],
+        &[("q", project)],
+    )?;
+    Ok(all)
+}
+
+fn add(
+    all: &mut Vec<Instance>,
+    alloc: Global,
+    id: &str,
+    deps: &[(&str, Goal)],
+    peers: &[(&str, Goal)],
+) -> Result<(), Fail> {
+    let one = instance(alloc, id, deps, peers)?;
+    all.push(one)?;
+    Ok(())
+}
+
+const ROWS: [&[usize]; 7] = [&[], &[], &[0], &[1], &[], &[], &[0, 2]];
+
 #[test]
 fn a_pair_stops_where_its_name_is_an_alias(rt: HostRuntime) -> Result<(), Fail> {
     let alloc = rt.alloc();
-    let instances = [
-        instance(alloc, "p@1.0.0", &[], &[])?,
-        instance(alloc, "p@2.0.0", &[], &[])?,
-        instance(alloc, "x@1.0.0", &[("y", at(5))], &[("p", at(0))])?,
-        instance(alloc, "x@1.0.0", &[("y", at(4))], &[("p", at(1))])?,
-        instance(alloc, "y@1.0.0", &[("p", at(1)), ("x", at(3))], &[])?,
-        instance(alloc, "y@1.0.0", &[("p", at(1)), ("x", at(2))], &[])?,
-        instance(
-            alloc,
-            "z@1.0.0",
-            &[("x", at(2))],
-            &[("q", Goal::Project(ProjIx(0)))],
-        )?,
-    ];
-    if !are_in_range(&instances, 1) {
+    let graph = graph(alloc)?;
+    let instances = graph.as_slice();
+    if instances.len() != 7 {
+        return Err(Fail::from("another count"));
+    }
+    if !are_in_range(instances, 1) {
         return Err(Fail::from("out of range"));
     }
-    let outer = outer_pairs(alloc, &instances)?;
-    assert!(rt; outer.pairs.len() == 3);
-    assert!(rt; outer.pairs[0].to == at(0));
-    assert!(rt; outer.pairs[1].to == at(1));
-    assert!(rt; outer.pairs[2].name.as_str() == "q");
-    let rows = [[].as_slice(), &[], &[0], &[1], &[], &[], &[0, 2]];
-    for (i, row) in rows.iter().enumerate() {
+    let outer = outer_pairs(alloc, instances)?;
+    assert!(rt; outer.rows.len() == 7);
+    for (i, row) in ROWS.iter().enumerate() {
         assert!(rt; outer.rows[i].as_slice() == *row, "{i}");
     }
     Ok(())
