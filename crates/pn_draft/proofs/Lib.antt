@@ -1,0 +1,12 @@
+pub mod Marked
+pub mod Climbing
+pub mod TopLemmas
+pub mod Raising
+pub mod Drawn
+pub mod Drawings
+pub mod Finishing
+pub mod BadPartLemmas
+pub mod Orders
+pub mod Outcome
+pub mod Leaves
+pub mod WithinLemmas

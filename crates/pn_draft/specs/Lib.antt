@@ -1,0 +1,5 @@
+pub mod Drawing
+pub mod Entries
+pub mod Sheets
+pub mod Finished
+pub mod Laws

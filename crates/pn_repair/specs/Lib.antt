@@ -1,0 +1,4 @@
+pub mod Stands
+pub mod Repairs
+pub mod RepairFaults
+pub mod Writes

@@ -1,0 +1,11 @@
+pub mod ManagedLemmas
+pub mod IsDistinctLemmas
+pub mod UpsLemmas
+pub mod IsFrontAtLemmas
+pub mod GaveLemmas
+pub mod KeepsPathsLemmas
+pub mod TakesAllLemmas
+pub mod FoldersInLemmas
+pub mod WalksLemmas
+pub mod AreLookedLemmas
+pub mod IsScanLemmas
