@@ -16,3 +16,6 @@ mod text;
 
 pub use entry::{is_fitting, repair};
 pub use fault::RepairFault;
+
+#[cfg(test)]
+mod tests;
