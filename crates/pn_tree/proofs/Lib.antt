@@ -6,3 +6,4 @@ pub mod OutcomeLemmas
 pub mod DrawLemmas
 pub mod BuiltLemmas
 pub mod FindsLemmas
+pub mod AloneLemmas

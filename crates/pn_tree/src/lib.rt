@@ -18,3 +18,6 @@ pub use fault::LayoutFault;
 pub use instance::{Instance, Target, Targets, Top};
 pub use laws::{built_law, finds_law, sound_law};
 pub use plan::layout;
+
+#[cfg(test)]
+mod tests;
