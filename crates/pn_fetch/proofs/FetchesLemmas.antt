@@ -1,7 +1,7 @@
 -- Lemmas on calls that put packages under a number.
-use Rattle.std.proofs.Common.{◌≡◌, ◌≤◌, ℕ, List, [], ◌∷◌, refl, sym, subst, inl, arith}
+use Rattle.std.proofs.Common.{◌≡◌, ◌≤◌, ℕ, List, [], ◌∷◌, ◌++◌, refl, sym, subst, inl, arith}
 use Rattle.std.specs.Prelude.{Option}
-use Rattle.std.specs.List.{Contains}
+use Rattle.std.specs.List.{All, Contains}
 use Rattle.sha2.specs.Sha512.{sha512}
 use Rattle.pn_text.specs.Path.{Path}
 use Rattle.pn_text.proofs.Members.{here, in_one}
@@ -22,13 +22,14 @@ use Rattle.pn_store.specs.declared.fault.PutFault.TheVariants.{StoreFault, Sourc
 use Rattle.pn_store.proofs.HeldLemmas.{works_twice, works_none}
 use Rattle.pn_store.proofs.LeavesLemmas.{others_both}
 use Rattle.pn_store.proofs.MadeLemmas.{made_both, made_none}
-use Rattle.pn_layout.specs.declared.packages.Package.{Package}
-use Rattle.pn_fetch.specs.Faults.{PutsRefused}
+use Rattle.pn_package.specs.declared.packages.Package.{Package}
+use Rattle.pn_fetch.specs.Faults.{PlacesRefused}
 use Rattle.pn_fetch.specs.Listings.{IsListingOf}
+use Rattle.pn_fetch.specs.Puts.{WasPut}
 use Rattle.pn_fetch.specs.Steps.{IsFetchStep, IsFileAt, IsPlaceOf, Fetches, Ends}
 use Rattle.pn_fetch.specs.declared.fault.FetchFault.{FetchFault}
 use Rattle.pn_fetch.proofs.IsFetchStepLemmas.{drops_made, file_made, listing_made, made_wider, one_at_most, refused_made}
-use Rattle.pn_fetch.proofs.PutsRefusedLemmas.{refused_between}
+use Rattle.pn_fetch.proofs.PutsRefusedLemmas.{all_were, refused_among, refused_between}
 
 pub fetches_none : GrewLaw → ClaimsLaw → (ps : List Package) (k : ℕ) (from : Source) (a : Seen) → IsHeld a k → Fetches ps k from from a a
 fetches_none grew claims ps k from a held = record { works = works_none grew claims k a held; own = made_none (IsFetchStep from.tree ps) a; registry = keeps_same from }
@@ -48,8 +49,14 @@ pub only_one : (packages : List Package) (q : Package) → Contains packages q �
 only_one packages q among p c = subst (Contains packages) (in_one q p c) among
 
 -- a refusal behind calls that were not refused
-pub refused_on : GrewLaw → WasLaw → (ps qs : List Package) → ((p : Package) → Contains ps p → Contains qs p) → (k : ℕ) (from mid gone : Source) (a b c : Seen) (e : FetchFault) → Fetches qs k from mid a b → PutsRefused ps mid gone b c e → PutsRefused qs from gone a c e
-refused_on grew was ps qs more k from mid gone a b c e h refused = refused_between was ps qs more from mid gone a b c c e h.registry h.works.grew h.works.later (grew.none c) (omega arith) refused
+pub refused_behind : GrewLaw → WasLaw → (ps : List Package) (all : List Path) (k : ℕ) (from mid gone : Source) (a b c : Seen) (e : FetchFault) → Fetches ps k from mid a b → PlacesRefused all mid gone b c e → PlacesRefused all from gone a c e
+refused_behind grew was ps all k from mid gone a b c e h refused = refused_between was all from mid gone a b c c e h.registry h.works.grew h.works.later (grew.none c) (omega arith) refused
+
+-- the same of some files, where those before were put
+pub refused_on : GrewLaw → WasLaw → (ps : List Package) (all front some back : List Path) (k : ℕ) (from mid gone : Source) (a b c : Seen) (e : FetchFault) → all ≡ front ++ (some ++ back) → Fetches ps k from mid a b → Grew b c → All (WasPut from.tree a b) front
+    → PlacesRefused some mid gone b c e → PlacesRefused all from gone a c e
+refused_on grew was ps all front some back k from mid gone a b c e is h more put refused =
+    refused_among all front some back from gone a c e is (all_were grew was from.tree a b c front more put) (refused_behind grew was ps some k from mid gone a b c e h refused)
 
 -- the number is dropped behind them
 pub fetches_end : GrewLaw → ClaimsLaw → (ps : List Package) (k j : ℕ) (from gone : Source) (a b c : Seen) → j ≡ k → Fetches ps k from gone a b → LeavesOthers j b c → Made (IsDropOf j) b c → Grew b c → b.faults ≤ c.faults → Ends ps k from gone a c

@@ -22,7 +22,7 @@ use Rattle.pn_digest.proofs.PlaceLemmas.{within_at}
 use Rattle.pn_storecore.specs.declared.step.Place.TheVariants.{Files}
 use Rattle.pn_storecore.specs.Seen.{Seen}
 use Rattle.pn_storecore.specs.Held.{HasObject}
-use Rattle.pn_layout.specs.declared.packages.Package.{Package}
+use Rattle.pn_package.specs.declared.packages.Package.{Package}
 use Rattle.pn_fetch.specs.Listings.{AreListable, AreListingsOf, IsFilePut, IsListingOf, path_of}
 
 any_behind : (f : ℕ → Bool) (text : List ℕ) → list_any f (drop 1 text) ≡ true → list_any f text ≡ true

@@ -1,7 +1,9 @@
 pub mod IsFetchStepLemmas
+pub mod PlacesLemmas
 pub mod PutsRefusedLemmas
 pub mod FetchesLemmas
 pub mod IsListingOfLemmas
 pub mod IsStoredLemmas
+pub mod WasListedLemmas
 pub mod TookOneLemmas
 pub mod AreListableLemmas

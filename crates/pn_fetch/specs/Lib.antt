@@ -1,4 +1,5 @@
 pub mod Listings
+pub mod Puts
 pub mod Steps
 pub mod Numbers
 pub mod Faults

@@ -13,7 +13,7 @@ use Rattle.pn_storecore.specs.declared.step.Place.TheVariants.{Files, Listings}
 use Rattle.pn_storecore.specs.Seen.{Seen}
 use Rattle.pn_storecore.specs.Held.{HasObject}
 use Rattle.pn_store.specs.Puts.{IsSource}
-use Rattle.pn_layout.specs.declared.packages.Package.{Package}
+use Rattle.pn_package.specs.declared.packages.Package.{Package}
 
 -- Paths that a listing may have: they rise in byte order, none is a folder of another one, and no part has a line feed.
 pub record AreListable (files : List Path) : Type 0 where

@@ -6,15 +6,18 @@ use Rattle.pn_text.specs.Path.{Path}
 use Rattle.pn_fs.specs.Tree.{Tree}
 use Rattle.pn_fs.specs.Seen.{Seen as Source, Keeps}
 use Rattle.pn_digest.specs.Listing.{Entry, listing_text}
+use Rattle.pn_storecore.specs.declared.step.Place.{Place}
+use Rattle.pn_storecore.specs.declared.step.Place.TheVariants.{Files, Listings}
 use Rattle.pn_storecore.specs.declared.step.StoreStep.{StoreStep}
 use Rattle.pn_storecore.specs.declared.step.StoreStep.TheVariants.{Claim, Create, Append, Shard, PublishFile, PublishListing, DropTemp, Read, Discard}
+use Rattle.pn_storecore.specs.World.{first_byte}
 use Rattle.pn_storecore.specs.Seen.{Seen}
 use Rattle.pn_storecore.specs.Grew.{Grew}
 use Rattle.pn_store.specs.Held.{Works}
 use Rattle.pn_store.specs.Leaves.{LeavesOthers}
 use Rattle.pn_store.specs.Own.{Made}
 use Rattle.pn_store.specs.Puts.{IsSource}
-use Rattle.pn_layout.specs.declared.packages.Package.{Package}
+use Rattle.pn_package.specs.declared.packages.Package.{Package}
 use Rattle.pn_fetch.specs.Listings.{IsListingOf}
 
 -- the place of a file of one of the packages in the registry
@@ -29,13 +32,18 @@ IsFileAt r packages at = (q : Path) × IsPlaceOf packages q × ((bytes : List �
 abbrev pub IsListingAt : Option Tree → List Package → List ℕ → Type 0
 IsListingAt r packages at = (p : Package) × Contains packages p × ((es : List Entry) × IsListingOf r p es × (at ≡ sha512 (listing_text es)))
 
--- The step claims a number, drops its folder or a file in it, is on file 0 of it, makes a shard folder or reads. What it moves
--- to an address is a file or the listing of one of the packages.
+-- the first byte of such an address, which names its shard folder
+abbrev pub IsFirstOf : Option Tree → List Package → Place → ℕ → Type 0
+IsFirstOf r packages Files first = (at : List ℕ) × IsFileAt r packages at × (first ≡ first_byte at)
+IsFirstOf r packages Listings first = (at : List ℕ) × IsListingAt r packages at × (first ≡ first_byte at)
+
+-- The step claims a number, drops its folder or a file in it, is on file 0 of it, or reads. What it moves to an address is a
+-- file or the listing of one of the packages, and a shard folder that it makes is that of such an address.
 abbrev pub IsFetchStep : Option Tree → List Package → StoreStep → Type 0
 IsFetchStep r packages (Claim k) = Unit {0}
 IsFetchStep r packages (Create k n) = n ≡ 0
 IsFetchStep r packages (Append k n more) = n ≡ 0
-IsFetchStep r packages (Shard place first) = Unit {0}
+IsFetchStep r packages (Shard place first) = IsFirstOf r packages place first
 IsFetchStep r packages (PublishFile k n at) = (n ≡ 0) × IsFileAt r packages at
 IsFetchStep r packages (PublishListing k n at) = (n ≡ 0) × IsListingAt r packages at
 IsFetchStep r packages (DropTemp k n) = Unit {0}

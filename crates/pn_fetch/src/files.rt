@@ -1,20 +1,22 @@
 // The files of one package, put into the store.
-ghost use Rattle.std.specs.Prelude.{◌≡◌, ◌≤◌, ◌++◌, ◌∷◌, [], IfOk, IfErr, OnOk, length, map};
+ghost use Rattle.std.specs.Prelude.{◌≡◌, ◌≤◌, ◌*◌, ◌++◌, ◌∷◌, [], IfOk, IfErr, IfSome, OnOk, length, map};
 ghost use Rattle.std.specs.List.{All, Contains};
 ghost use Rattle.std.specs.Option.{ForSome};
 ghost use Rattle.pn_text.specs.declared.limits.TheConstants.{PATH_LIMIT};
 ghost use Rattle.pn_text.specs.Path.{path_text};
 ghost use Rattle.pn_fs.specs.Tree.{IsFile};
-ghost use Rattle.pn_layout.specs.Sound.{FilesStand};
+ghost use Rattle.pn_fs.specs.Seen.{GaveAtMost};
+ghost use Rattle.pn_package.specs.Sound.{FilesStand};
 ghost use Rattle.pn_store.specs.Held.{IsHeld};
-ghost use Rattle.pn_fetch.specs.Faults.{PutsRefused};
+ghost use Rattle.pn_fetch.specs.Faults.{PlacesRefused};
 ghost use Rattle.pn_fetch.specs.Listings.{CanList, IsFilePut, path_of};
+ghost use Rattle.pn_fetch.specs.Puts.{WasPut, bytes_at, places_of};
 ghost use Rattle.pn_fetch.specs.Steps.{Fetches};
 
 use crate::fault::{FetchFault, of_put};
 use pn_digest::Digest;
 use pn_fs::ReadFs;
-use pn_layout::Package;
+use pn_package::Package;
 use pn_store::{Claim, put_file};
 use pn_storecore::{StoreDisk, claims_law, grew_law, was_law};
 use pn_text::{AbsPath, Memory, PathFault, RelPath};
@@ -35,7 +37,9 @@ pub fn put_files<D: StoreDisk, R: ReadFs>(
     ensures put { IfOk result (λ v. All (IsFilePut (R.seen registry.old).tree one.now.folder (D.seen disk.new)) v.items) }
     ensures claim { claim.new ≡ claim.old }
     ensures fetches { Fetches (one.now ∷ []) claim.old (R.seen registry.old) (R.seen registry.new) (D.seen disk.old) (D.seen disk.new) }
-    ensures refused { IfErr result (PutsRefused (one.now ∷ []) (R.seen registry.old) (R.seen registry.new) (D.seen disk.old) (D.seen disk.new)) }
+    ensures was { OnOk result (All (WasPut (R.seen registry.old).tree (D.seen disk.old) (D.seen disk.new)) (places_of one.now)) }
+    ensures gave { IfSome (R.seen registry.old).tree (λ t. GaveAtMost (R.seen registry.old) (2 * bytes_at t (places_of one.now)) 0 (R.seen registry.new)) }
+    ensures refused { IfErr result (PlacesRefused (places_of one.now) (R.seen registry.old) (R.seen registry.new) (D.seen disk.old) (D.seen disk.new)) }
 {
     grew_law();
     claims_law();
@@ -65,10 +69,13 @@ fn put_one<D: StoreDisk, R: ReadFs>(
     ensures put { IfOk result (λ digest. IsFilePut (R.seen registry.old).tree one.now.folder (D.seen disk.new) (path.now, digest)) }
     ensures claim { claim.new ≡ claim.old }
     ensures fetches { Fetches (one.now ∷ []) claim.old (R.seen registry.old) (R.seen registry.new) (D.seen disk.old) (D.seen disk.new) }
-    ensures refused { IfErr result (PutsRefused (one.now ∷ []) (R.seen registry.old) (R.seen registry.new) (D.seen disk.old) (D.seen disk.new)) }
+    ensures was { OnOk result (WasPut (R.seen registry.old).tree (D.seen disk.old) (D.seen disk.new) (path.now ++ one.now.folder)) }
+    ensures gave { IfSome (R.seen registry.old).tree (λ t. GaveAtMost (R.seen registry.old) (2 * bytes_at t ((path.now ++ one.now.folder) ∷ [])) 0 (R.seen registry.new)) }
+    ensures refused { IfErr result (PlacesRefused ((path.now ++ one.now.folder) ∷ []) (R.seen registry.old) (R.seen registry.new) (D.seen disk.old) (D.seen disk.new)) }
 {
     grew_law();
     claims_law();
+    was_law();
     let at = place(alloc, &one.folder, path)?;
     match put_file(alloc, disk, claim, registry, &at) {
         Ok(put) => Ok(put.digest),

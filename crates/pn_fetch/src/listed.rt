@@ -10,6 +10,7 @@ ghost use Rattle.pn_store.specs.Held.{IsHeld, Works};
 ghost use Rattle.pn_store.specs.Own.{PublishedAtMost};
 ghost use Rattle.pn_fetch.specs.Faults.{StoreRefused};
 ghost use Rattle.pn_fetch.specs.Listings.{AreListable, path_of};
+ghost use Rattle.pn_fetch.specs.Puts.{WasListed};
 
 use crate::fault::{FetchFault, of_put};
 use pn_digest::{Digest, Listing, ListingFault};
@@ -50,6 +51,7 @@ pub fn put_listed<D: StoreDisk>(
     requires held { IsHeld (D.seen disk.old) claim.old }
     requires named { (e : Entry) → Contains listing.now e → HasObject (D.seen disk.old) Files e.1 }
     ensures stands { OnOk result (HasObject (D.seen disk.new) Listings (sha512 (listing_text listing.now))) }
+    ensures listed { OnOk result (WasListed (D.seen disk.old) (D.seen disk.new) listing.now) }
     ensures published { PublishedAtMost (step.PublishListing claim.old 0 (sha512 (listing_text listing.now))) (D.seen disk.old) (D.seen disk.new) }
     ensures claim { claim.new ≡ claim.old }
     ensures works { Works claim.old (D.seen disk.old) (D.seen disk.new) }

@@ -13,7 +13,7 @@ use Rattle.pn_storecore.proofs.UpdateLemmas.{at_number}
 use Rattle.pn_text.proofs.Results.{on_err}
 use Rattle.pn_store.specs.declared.number.TheConstants.{NUMBERS}
 use Rattle.pn_store.specs.Own.{IsClaimStep}
-use Rattle.pn_store.specs.Claims.{IsClaimed, IsFirst, IsTried, IsLeft, OnlyClaims, AreTaken}
+use Rattle.pn_store.specs.Claims.{IsClaimed, IsTried, IsLeft, OnlyClaims, AreTaken}
 use Rattle.pn_store.proofs.MadeLemmas.{made_call, made_none, made_both}
 
 none_at : ℕ → Option ℕ

@@ -1,5 +1,5 @@
 -- Lemmas on what calls leave of numbers.
-use Rattle.std.proofs.Common.{◌≡◌, ◌≢◌, ℕ, List, sym, ◌∙◌, subst, Some, None}
+use Rattle.std.proofs.Common.{◌≢◌, ℕ, sym, ◌∙◌, subst, Some, None}
 use Rattle.pn_storecore.specs.declared.step.StoreStep.{StoreStep}
 use Rattle.pn_storecore.specs.declared.step.StoreStep.TheVariants.{Claim, Create, Append, Shard, PublishFile, PublishListing, DropTemp, Read, Discard}
 use Rattle.pn_storecore.specs.Seen.{Seen}

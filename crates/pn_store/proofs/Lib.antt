@@ -7,3 +7,4 @@ pub mod BeginsLemmas
 pub mod PutsLemmas
 pub mod MetLemmas
 pub mod FoundLemmas
+pub mod GaveLemmas

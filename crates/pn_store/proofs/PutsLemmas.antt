@@ -5,7 +5,7 @@ use Rattle.std.specs.Option.{ForSome}
 use Rattle.std.proofs.lemmas.List.{take_all}
 use Rattle.sha2.specs.Sha512.{sha512}
 use Rattle.pn_text.specs.Path.{Path}
-use Rattle.pn_fs.specs.Tree.{Entry, file, Tree, IsFile}
+use Rattle.pn_fs.specs.Tree.{file, Tree, IsFile}
 use Rattle.pn_fs.specs.Pieces.{IsPiece}
 use Rattle.pn_fs.proofs.PieceLemmas.{IsFront, grown_front}
 use Rattle.pn_digest.specs.declared.hasher.Hasher512.{Hasher512}

@@ -3,7 +3,7 @@ use Rattle.std.specs.Prelude.{◌≡◌, ◌≢◌, ◌⊎◌, ◌≤◌, ◌<�
 use Rattle.sha2.specs.Sha512.{sha512}
 use Rattle.pn_text.specs.declared.limits.TheConstants.{FILE_LIMIT}
 use Rattle.pn_text.specs.Path.{Path}
-use Rattle.pn_fs.specs.Tree.{Tree, file}
+use Rattle.pn_fs.specs.Tree.{Entry, Tree, file}
 use Rattle.pn_storecore.specs.declared.step.Place.TheVariants.{Files}
 use Rattle.pn_storecore.specs.declared.step.StoreStep.TheVariants.{PublishFile}
 use Rattle.pn_storecore.specs.Seen.{Seen}
@@ -21,6 +21,11 @@ use Rattle.pn_store.specs.declared.fault.PutFault.TheVariants.{StoreFault, Memor
 -- the source has these bytes at the path, where it is told
 abbrev pub IsSource : Option Tree → Path → List ℕ → Type 0
 IsSource source p bytes = IfSome source (λ r. r p ≡ Some (file bytes))
+
+-- how many bytes the file that stands there has
+abbrev pub file_length : Option Entry → ℕ
+file_length (Some (file bytes)) = length bytes
+file_length e = 0
 
 -- What was read at the address before a put published there: nothing, the source's bytes, bytes of another digest, or
 -- more than the limit. So no other bytes than the source's that have the address as digest.

@@ -11,7 +11,7 @@ ghost use Rattle.pn_storecore.specs.Grew.{Grew, ReadTo};
 ghost use Rattle.pn_store.specs.Held.{HoldsFile, IsHeld, Works};
 ghost use Rattle.pn_store.specs.Faults.{StoreRefuses};
 ghost use Rattle.pn_storecore.specs.declared.step.StoreStep.TheVariants as step;
-ghost use Rattle.pn_store.specs.Own.{Made, IsDropOf, PublishedNone, PublishedOne, PublishedAtMost};
+ghost use Rattle.pn_store.specs.Own.{Made, IsDropOf, IsShard, PublishedNone, PublishedOne, PublishedAtMost};
 ghost use Rattle.pn_store.specs.Leaves.{LeavesAll};
 
 use crate::fault::{PutFault, of_store};
@@ -92,7 +92,7 @@ pub fn shard<D: StoreDisk>(disk: &mut D, k: u32, place: Place, first: u8) -> Res
     requires { IsHeld (D.seen disk.old) k }
     ensures ok { OnOk result (HasShard (D.seen disk.new) place first) }
     ensures left { (b : Option (List ℕ)) → HoldsFile (D.seen disk.old) k b → HoldsFile (D.seen disk.new) k b }
-    ensures unpublished { PublishedNone (D.seen disk.old) (D.seen disk.new) }
+    ensures made { Made (IsShard place first) (D.seen disk.old) (D.seen disk.new) }
     ensures works { Works k (D.seen disk.old) (D.seen disk.new) }
     ensures fault { IfErr result (StoreRefuses (D.seen disk.old) (D.seen disk.new)) }
 {

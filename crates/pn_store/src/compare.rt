@@ -1,14 +1,14 @@
 // What stands at the address of a file that is put.
-ghost use Rattle.std.specs.Prelude.{◌≡◌, ◌≢◌, ◌⊎◌, ◌≤◌, ◌<◌, ◌↔◌, ℕ, List, ◌++◌, true, false, OnOk, IfOk, IfErr, IfSome, length, take};
+ghost use Rattle.std.specs.Prelude.{◌≡◌, ◌≢◌, ◌⊎◌, ◌≤◌, ◌<◌, ◌↔◌, ◌-◌, min, ℕ, List, ◌++◌, true, false, OnOk, OnErr, IfOk, IfErr, IfSome, length, take};
 ghost use Rattle.std.specs.Option.{ForSome};
 ghost use Rattle.sha2.specs.Sha512.{sha512};
 ghost use Rattle.pn_fs.specs.Tree.{IsFile};
-ghost use Rattle.pn_fs.specs.Seen.{Keeps};
+ghost use Rattle.pn_fs.specs.Seen.{Keeps, GaveAtMost, GaveBytes, GaveNothing};
 ghost use Rattle.pn_fs.specs.Pieces.{IsPiece};
 ghost use Rattle.pn_digest.specs.Hashing.{Holds as Hashes};
 ghost use Rattle.pn_storecore.specs.Grew.{Grew};
 ghost use Rattle.pn_store.specs.Faults.{FileRefused, PutRefused, SourceRefuses};
-ghost use Rattle.pn_store.specs.Puts.{IsFound, IsMet, HasSource};
+ghost use Rattle.pn_store.specs.Puts.{IsFound, IsMet, HasSource, file_length};
 ghost use Rattle.pn_store.specs.Begins.{BeginsAt, IsEnd};
 ghost use Rattle.pn_store.specs.Leaves.{LeavesAll};
 
@@ -46,6 +46,7 @@ pub fn meet<D: StoreDisk, R: ReadFs>(
     ensures grew { Grew (D.seen disk.old) (D.seen disk.new) }
     ensures later { (D.seen disk.old).faults ≤ (D.seen disk.new).faults }
     ensures source { Keeps (R.seen from.old) (R.seen from.new) }
+    ensures gave { IfSome (R.seen from.old).tree (λ t. GaveAtMost (R.seen from.old) (file_length (t path.now)) 0 (R.seen from.new)) }
     ensures fault { IfErr result (PutRefused path.now (R.seen from.old) (R.seen from.new) (D.seen disk.old) (D.seen disk.new)) }
 {
     let met = compare(disk, at, size, from, path, ours, theirs)?;
@@ -81,6 +82,7 @@ fn compare<D: StoreDisk, R: ReadFs>(
     ensures grew { Grew (D.seen disk.old) (D.seen disk.new) }
     ensures later { (D.seen disk.old).faults ≤ (D.seen disk.new).faults }
     ensures source { Keeps (R.seen from.old) (R.seen from.new) }
+    ensures gave { IfSome (R.seen from.old).tree (λ t. GaveAtMost (R.seen from.old) (file_length (t path.now)) 0 (R.seen from.new)) }
     ensures fault { IfErr result (FileRefused path.now (R.seen from.old) (R.seen from.new) (D.seen disk.old) (D.seen disk.new)) }
 {
     grew_law();
@@ -140,7 +142,8 @@ struct Step {
     same: bool,
 }
 
-// Compares bytes at a place with the source's there. Where those before differ, it reads nothing.
+// Compares bytes at a place with the source's there, of which it reads no more than those that it compares. Where those before
+// differ, it reads nothing.
 fn agree<R: ReadFs>(
     from: &mut R,
     path: &AbsPath,
@@ -158,6 +161,8 @@ fn agree<R: ReadFs>(
     ensures begins { IfOk result (λ s. same ≡ true → IfSome (R.seen from.old).tree (λ r. BeginsAt (r path.now) at (take s.used ours.now) s.same)) }
     ensures differs { IfOk result (λ s. same ≡ false → s.same ≡ false) }
     ensures kept { Keeps (R.seen from.old) (R.seen from.new) }
+    ensures gave { IfSome (R.seen from.old).tree (λ t. IfOk result (λ s. GaveAtMost (R.seen from.old) (min s.used (file_length (t path.now) - at)) 0 (R.seen from.new))) }
+    ensures gave_none { IfSome (R.seen from.old).tree (λ t. OnErr result (GaveNothing (R.seen from.old) (R.seen from.new))) }
     ensures fault { IfErr result (SourceRefuses (R.seen from.old) (R.seen from.new)) }
 {
     if !same {
@@ -166,16 +171,20 @@ fn agree<R: ReadFs>(
             same: false,
         });
     }
-    let given = source_piece(from, path, at, theirs)?;
+    let room = count.min(theirs.len());
+    let (front, _) = theirs.split_at_mut(room);
+    let given = source_piece(from, path, at, front)?;
     if given == 0 {
         return Ok(Step {
             used: count,
             same: false,
         });
     }
-    let used = count.min(given);
-    let alike = is_same(ours, theirs, used);
-    Ok(Step { used, same: alike })
+    let alike = is_same(ours, front, given);
+    Ok(Step {
+        used: given,
+        same: alike,
+    })
 }
 
 fn is_same(ours: &[u8], theirs: &[u8], count: usize) -> bool
@@ -199,6 +208,8 @@ pub fn source_piece<R: ReadFs>(
     ensures within { IfOk result (λ n. n ≤ length into.old) }
     ensures piece { IfSome (R.seen from.old).tree (λ r. IfOk result (IsPiece (r path.now) at into.new)) }
     ensures kept { Keeps (R.seen from.old) (R.seen from.new) }
+    ensures gave { IfSome (R.seen from.old).tree (λ t. IfOk result (λ n. GaveBytes (R.seen from.old) n (R.seen from.new))) }
+    ensures gave_none { IfSome (R.seen from.old).tree (λ t. OnErr result (GaveNothing (R.seen from.old) (R.seen from.new))) }
     ensures fault { IfErr result (SourceRefuses (R.seen from.old) (R.seen from.new)) }
 {
     match from.read_piece(path, at, into) {

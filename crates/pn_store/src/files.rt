@@ -1,9 +1,10 @@
 // A file of a tree, put into the store.
-ghost use Rattle.std.specs.Prelude.{◌≡◌, ◌≤◌, ◌<◌, ℕ, List, [], ◌++◌, OnOk, IfOk, IfErr, length, take};
+ghost use Rattle.std.specs.Prelude.{◌≡◌, ◌≤◌, ◌<◌, ◌*◌, min, ℕ, List, [], ◌++◌, OnOk, IfOk, IfErr, IfSome, length, take};
 ghost use Rattle.std.specs.Option.{ForSome};
 ghost use Rattle.sha2.specs.Sha512.{sha512};
 ghost use Rattle.pn_fs.specs.Tree.{IsFile};
-ghost use Rattle.pn_fs.specs.Seen.{Keeps};
+ghost use Rattle.pn_text.specs.declared.limits.TheConstants.{FILE_LIMIT};
+ghost use Rattle.pn_fs.specs.Seen.{Keeps, GaveAtMost, GaveNothing};
 ghost use Rattle.pn_digest.specs.Hashing.{Holds as Hashes};
 ghost use Rattle.pn_storecore.specs.declared.step.Place.TheVariants.{Files};
 ghost use Rattle.pn_storecore.specs.declared.step.StoreStep.TheVariants as step;
@@ -13,7 +14,7 @@ ghost use Rattle.pn_storecore.specs.Seen.{Seen as Stored};
 ghost use Rattle.pn_store.specs.Held.{HoldsFile, IsHeld, Works};
 ghost use Rattle.pn_store.specs.Faults.{FileRefused, PutRefused, StoreRefuses};
 ghost use Rattle.pn_store.specs.Own.{PublishedNone, PublishedOne, PublishedAtMost};
-ghost use Rattle.pn_store.specs.Puts.{IsPut, IsFilled, IsShortFile, PutLeft};
+ghost use Rattle.pn_store.specs.Puts.{IsPut, IsFilled, IsShortFile, PutLeft, file_length};
 
 use crate::calls::{append, first_of, publish_file, shard, start};
 use crate::compare::{meet, source_piece};
@@ -35,7 +36,8 @@ pub struct Put {
 /// Puts the file of a tree into the store, piece by piece. What stands at its address is read and compared, and
 /// replaced: by equal bytes, or where it has another digest or more than 268,435,456 bytes. The refusals:
 /// `StoreFault` and `SourceFault` for a call that failed, `TooLarge` for a file of more than 268,435,456 bytes, `Clash`
-/// where other bytes with this digest were read there, `Memory`. The claim serves for a next put after each of them.
+/// where other bytes with this digest were read there, `Memory`. The claim serves for a next put after each of them. The
+/// source's file is read at most twice, to copy it and beside what stands at its address, and not at all where it is too large.
 pub fn put_file<D: StoreDisk, R: ReadFs>(
     alloc: Global,
     disk: &mut D,
@@ -52,6 +54,7 @@ pub fn put_file<D: StoreDisk, R: ReadFs>(
     ensures claim { claim.new ≡ claim.old }
     ensures works { Works claim.old (D.seen disk.old) (D.seen disk.new) }
     ensures source { Keeps (R.seen from.old) (R.seen from.new) }
+    ensures gave { IfSome (R.seen from.old).tree (λ t. GaveAtMost (R.seen from.old) (2 * min (file_length (t path.now)) FILE_LIMIT) 0 (R.seen from.new)) }
     ensures fault { IfErr result (PutRefused path.now (R.seen from.old) (R.seen from.new) (D.seen disk.old) (D.seen disk.new)) }
 {
     grew_law();
@@ -83,6 +86,7 @@ fn put_short<D: StoreDisk, R: ReadFs>(
     ensures empty { OnOk result (HoldsFile (D.seen disk.new) k None) }
     ensures works { Works k (D.seen disk.old) (D.seen disk.new) }
     ensures source { Keeps (R.seen from.old) (R.seen from.new) }
+    ensures gave { IfSome (R.seen from.old).tree (λ t. GaveAtMost (R.seen from.old) (2 * file_length (t path.now)) 0 (R.seen from.new)) }
     ensures fault { IfErr result (PutRefused path.now (R.seen from.old) (R.seen from.new) (D.seen disk.old) (D.seen disk.new)) }
 {
     grew_law();
@@ -111,6 +115,7 @@ fn fill<D: StoreDisk, R: ReadFs>(
     ensures unpublished { PublishedNone (D.seen disk.old) (D.seen disk.new) }
     ensures works { Works k (D.seen disk.old) (D.seen disk.new) }
     ensures source { Keeps (R.seen from.old) (R.seen from.new) }
+    ensures gave { IfSome (R.seen from.old).tree (λ t. GaveAtMost (R.seen from.old) (file_length (t path.now)) 0 (R.seen from.new)) }
     ensures fault { IfErr result (FileRefused path.now (R.seen from.old) (R.seen from.new) (D.seen disk.old) (D.seen disk.new)) }
 {
     grew_law();
@@ -183,6 +188,7 @@ fn check_size<R: ReadFs>(from: &mut R, path: &AbsPath) -> Result<(), PutFault>
     requires { ForSome (R.seen from.old).tree (λ r. IsFile r path.now) }
     ensures short { OnOk result (ForSome (R.seen from.new).tree (λ r. IsShortFile r path.now)) }
     ensures kept { Keeps (R.seen from.old) (R.seen from.new) }
+    ensures gave { IfSome (R.seen from.old).tree (λ t. GaveNothing (R.seen from.old) (R.seen from.new)) }
     ensures fault { (old new : Stored) → IfErr result (FileRefused path.now (R.seen from.old) (R.seen from.new) old new) }
 {
     match from.kind(path) {

@@ -1,7 +1,9 @@
-use Rattle.std.proofs.Common.{sym, subst}
+use Rattle.std.proofs.Common.{List, ℕ, Some, sym, subst}
 use Rattle.pn_storecore.specs.declared.step.Place.TheVariants.{Listings}
 use Rattle.pn_storecore.specs.declared.step.StoreStep.TheVariants.{PublishListing}
 use Rattle.pn_storecore.specs.Held.{HasObject}
+use Rattle.pn_digest.specs.Listing.{listing_text}
+use Rattle.pn_storecore.specs.Grew.{Was}
 use Rattle.pn_store.specs.Own.{PublishedAtMost}
 use Rattle.pn_fetch.specs.Faults.{StoreRefused}
 use Rattle.pn_fetch.proofs.IsFetchStepLemmas.{one_at_most}
@@ -12,6 +14,12 @@ pub returns-in-Ok-clause-stands : goal.returns-in-Ok-clause-stands
 returns-in-Ok-clause-stands g c =
     let put = c.in-Ok.ensures.put in
     subst (HasObject (g.D.StoreDisk.seen c.put_listing.new.disk) Listings) put.digest put.stands
+
+pub returns-in-Ok-clause-listed : goal.returns-in-Ok-clause-listed
+returns-in-Ok-clause-listed g c =
+    let put = c.in-Ok.ensures.put in
+    let store = g.D.StoreDisk.seen in
+    subst (λ (at : List ℕ). Was Listings at (Some (listing_text c.args.listing.now)) (store c.args.disk.now) (store c.put_listing.new.disk)) put.digest put.was
 
 pub returns-in-Ok-clause-published : goal.returns-in-Ok-clause-published
 returns-in-Ok-clause-published g c =

@@ -3,9 +3,11 @@ use Rattle.std.proofs.lemmas.Result.{err_from_is_err_and}
 use Rattle.pn_storecore.specs.declared.step.Place.TheVariants.{Files}
 use Rattle.pn_store.specs.Held.{IsHeld}
 use Rattle.pn_fetch.specs.Listings.{AreListable}
-use Rattle.pn_fetch.proofs.FetchesLemmas.{fetches_listing, refused_on}
+use Rattle.pn_fetch.specs.Puts.{places_of}
+use Rattle.pn_fetch.proofs.FetchesLemmas.{fetches_listing, refused_behind}
 use Rattle.pn_fetch.proofs.IsListingOfLemmas.{listing_of, stands_of}
-use Rattle.pn_fetch.proofs.PutsRefusedLemmas.{refused_store}
+use Rattle.pn_fetch.proofs.PutsRefusedLemmas.{all_were, refused_store}
+use Rattle.pn_fetch.proofs.WasListedLemmas.{listed_between}
 use Rattle.pn_fetch.proofs.package.put_package.Goals as goal
 
 pub listed-requires : goal.listed-requires
@@ -33,14 +35,18 @@ pub returns-in_err-put_listed-clause-refused : goal.returns-in_err-put_listed-cl
 returns-in_err-put_listed-clause-refused g c =
     let store = g.D.StoreDisk.seen in
     let source = g.R.ReadFs.seen in
-    let ps = c.args.one.now ∷ [] in
-    let from = source c.args.registry.now in
+    let one = c.args.one.now in
     let gone = source c.put_files.new.registry in
     let mid = store c.put_files.new.disk in
     let new = store c.put_listed.new.disk in
     let p = err_from_is_err_and c.from_residual-in_err-put_listed.result c.from_residual-in_err-put_listed.ensures.1 in
-    rw (p.1, p.2) (refused_on c.grew_law.ensures c.was_law.ensures ps ps (λ q among. among) c.args.claim.now from gone gone (store c.args.disk.now) mid new _ c.put_files.ensures.fetches
-    (refused_store ps gone gone mid new _ c.in_err-put_listed.ensures.refused))
+    rw (p.1, p.2) (refused_behind c.grew_law.ensures c.was_law.ensures (one ∷ []) (places_of one) c.args.claim.now (source c.args.registry.now) gone gone (store c.args.disk.now) mid new _ c.put_files.ensures.fetches
+    (refused_store (places_of one) gone gone mid new _ c.in_err-put_listed.ensures.refused))
+
+pub returns-clause-was : goal.returns-clause-was
+returns-clause-was g c =
+    let store = g.D.StoreDisk.seen in
+    all_were c.grew_law.ensures c.was_law.ensures (g.R.ReadFs.seen c.args.registry.now).tree (store c.args.disk.now) (store c.put_files.new.disk) (store c.put_listed.new.disk) (places_of c.args.one.now) c.put_listed.ensures.works.grew c.in_ok-files.ensures.was
 
 pub returns-clause-listing : goal.returns-clause-listing
 returns-clause-listing g c =
@@ -56,6 +62,12 @@ returns-clause-stored g c =
       files = λ e among. c.grew_law.ensures.object mid (store c.put_listed.new.disk) Files e.1 c.put_listed.ensures.works.grew
           (stands_of (g.R.ReadFs.seen c.args.registry.now).tree c.args.one.now.folder mid c.in_ok-files.files.items es c.in_ok-files.ensures.put c.in_ok-listing.ensures.files e among);
     }
+
+pub returns-clause-listed : goal.returns-clause-listed
+returns-clause-listed g c =
+    let store = g.D.StoreDisk.seen in
+    let new = store c.put_listed.new.disk in
+    listed_between c.was_law.ensures (store c.args.disk.now) (store c.put_files.new.disk) new new c.put_files.ensures.fetches.works.grew (c.grew_law.ensures.none new) c.in_ok-listing.listing c.in_ok-put_listed.ensures.listed
 
 pub returns-clause-fetches : goal.returns-clause-fetches
 returns-clause-fetches g c =

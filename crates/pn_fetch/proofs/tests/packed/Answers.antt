@@ -5,8 +5,8 @@ use Rattle.pn_text.specs.Path.{Path, path_text}
 use Rattle.pn_text.specs.declared.limits.TheConstants.{PATH_LIMIT}
 use Rattle.pn_fetch.specs.Listings.{path_of}
 use Rattle.std.specs.List.Sorted.{IsStrictlySortedBy}
-use Rattle.pn_layout.specs.Links.{IsRising}
-use Rattle.pn_layout.specs.Listed.{pair_of}
+use Rattle.pn_package.specs.Links.{IsRising}
+use Rattle.pn_package.specs.Listed.{pair_of}
 use Rattle.pn_fetch.proofs.AreListableLemmas.{listable_as}
 use Rattle.pn_fetch.proofs.tests.packed.Goals as goal
 

@@ -8,4 +8,4 @@ returns-then-given-eq0-clause-begins g c same =
 
 pub returns-clause-begins : goal.returns-clause-begins
 returns-clause-begins g c same =
-    agrees (g.R.ReadFs.seen c.args.from.now).tree c.args.path.now c.args.at c.in_ok-given.given c.min-used.result c.args.ours.now c.source_piece.new.into c.is_same-alike.result c.in_ok-given.ensures.piece (omega (arith, c.min-used.ensures)) (omega (arith, c.min-used.ensures, c.requires.within)) c.is_same-alike.ensures
+    agrees (g.R.ReadFs.seen c.args.from.now).tree c.args.path.now c.args.at c.in_ok-given.given c.in_ok-given.given c.args.ours.now c.source_piece.new.into c.is_same-alike.result c.in_ok-given.ensures.piece (omega arith) (omega (arith, c.in_ok-given.ensures.within, c.min-room.ensures, c.requires.within)) c.is_same-alike.ensures

@@ -1,10 +1,12 @@
 use Rattle.std.proofs.Common.{◌≡◌, [], ◌≤◌, ◌+◌, ◌++◌, length, take, refl, subst, arith, length-append, length-take}
-use Rattle.std.specs.Prelude.{IfSome}
+use Rattle.std.specs.Prelude.{IfSome, min, ◌-◌}
 use Rattle.pn_storecore.specs.declared.step.Place.TheVariants.{Files}
 use Rattle.pn_storecore.specs.Grew.{ReadTo}
 use Rattle.pn_fs.proofs.SeenLemmas.{keeps_on, keeps_same}
 use Rattle.pn_store.proofs.ReadsLemmas.{start, reads_on, reads_end, too_long, fewer}
 use Rattle.pn_store.proofs.BeginsLemmas.{begins_none, begins_more, found_end}
+use Rattle.pn_store.proofs.GaveLemmas.{gave_then}
+use Rattle.pn_store.specs.Puts.{file_length}
 use Rattle.pn_store.proofs.LeavesLemmas.{all_none, all_both}
 use Rattle.pn_store.proofs.compare.compare.Goals as goal
 
@@ -17,6 +19,7 @@ pieces-init g c =
       begins = begins_none source.tree c.args.path.now c.requires.file;
       within = omega arith;
       kept = keeps_same source;
+      gave = λ t told. record { bytes = omega arith; names = omega arith };
       left = all_none c.claims_law.ensures a;
       grew = c.grew_law.ensures.none a;
       later = omega arith;
@@ -115,6 +118,7 @@ pieces-preserved g c =
       begins = begins_more (g.R.ReadFs.seen c.args.from.now).tree (g.R.ReadFs.seen c.pieces.from).tree c.args.path.now bytes (take used into) c.pieces.place c.pieces.same c.in_ok-step.step.same inv.kept.tree inv.reading.size inv.begins step.begins step.differs;
       within = omega (arith, c.if-place-count-gt-FILE_LIMIT.false, step.used.1);
       kept = keeps_on (g.R.ReadFs.seen c.args.from.now) (g.R.ReadFs.seen c.pieces.from) (g.R.ReadFs.seen c.agree.new.from) inv.kept c.agree.ensures.kept;
+      gave = gave_then _ _ _ (λ t. min c.pieces.place (file_length (t c.args.path.now))) (λ t. min used (file_length (t c.args.path.now) - c.pieces.place)) (λ t. min (c.pieces.place + used) (file_length (t c.args.path.now))) inv.kept.tree inv.gave step.gave (λ t told. omega arith);
       left = all_both c.claims_law.ensures old mid new inv.left c.read.ensures.left;
       grew = c.grew_law.ensures.both old mid new inv.grew c.read.ensures.grew;
       later = omega (arith, inv.later, c.read.ensures.cause.later);

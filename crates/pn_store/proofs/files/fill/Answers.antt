@@ -1,9 +1,11 @@
-use Rattle.std.proofs.Common.{◌≤◌, [], length, refl, arith, rules, Some}
+use Rattle.std.proofs.Common.{◌≤◌, ◌+◌, [], length, refl, arith, rules, Some}
 use Rattle.pn_store.proofs.HeldLemmas.{works_none, works_twice}
 use Rattle.pn_fs.proofs.PieceLemmas.{piece_of}
 use Rattle.pn_store.proofs.PutsLemmas.{starts, goes_on, ends, not_large, short_is_file}
 use Rattle.pn_store.specs.Faults.{IsLong}
+use Rattle.pn_store.proofs.GaveLemmas.{bytes_most, front_within, gave_end, gave_then, nothing_most}
 use Rattle.pn_store.specs.Own.{IsNoPublish}
+use Rattle.pn_store.specs.Puts.{file_length}
 use Rattle.pn_store.proofs.MadeLemmas.{made_none, none_both}
 use Rattle.pn_store.proofs.files.fill.Goals as goal
 
@@ -13,6 +15,7 @@ pieces-init g c =
       filling = starts _ _ _ _ _ c.requires.held c.new-hasher.ensures c.requires.file;
       within = omega arith;
       kept = record { tree = refl; touched = refl; later = omega arith };
+      gave = λ t told. record { bytes = omega arith; names = omega arith };
       unpublished = made_none IsNoPublish (g.D.StoreDisk.seen c.args.disk.now);
       works = works_none c.grew_law.ensures c.claims_law.ensures c.args.k (g.D.StoreDisk.seen c.args.disk.now) (Some [], c.requires.held);
     }
@@ -40,6 +43,7 @@ pieces-preserved g c =
       filling = goes_on _ _ _ _ _ _ c.pieces.hasher _ _ _ h (piece_of _ _ _ _ _ _ inv.kept.tree c.in_ok-count.ensures.piece) within (c.in_ok-take_in.ensures.ok h.bytes h.holds) (c.in_ok-take_in.ensures.hashed h.bytes h.hashed);
       within = c.if-next-gt-FILE_LIMIT.false;
       kept = search rules;
+      gave = gave_then _ _ _ (λ t. c.pieces.at) (λ t. c.in_ok-count.count) (λ t. c.pieces.at + c.in_ok-count.count) inv.kept.tree inv.gave (bytes_most _ _ _ c.in_ok-count.count c.in_ok-count.ensures.gave) (λ t told. omega arith);
       unpublished = none_both (seen c.args.disk.now) (seen c.pieces.disk) (seen c.take_in.new.disk) inv.unpublished c.take_in.ensures.unpublished;
       works = works_twice c.grew_law.ensures c.claims_law.ensures c.args.k (seen c.args.disk.now) (seen c.pieces.disk) (seen c.take_in.new.disk) inv.works c.take_in.ensures.works;
     }
@@ -53,3 +57,15 @@ pub returns-in_err-take_in-clause-works : goal.returns-in_err-take_in-clause-wor
 returns-in_err-take_in-clause-works g c =
     let seen = g.D.StoreDisk.seen in
     works_twice c.grew_law.ensures c.claims_law.ensures c.args.k (seen c.args.disk.now) (seen c.pieces.disk) (seen c.take_in.new.disk) c.pieces.invariant.works c.take_in.ensures.works
+
+pub returns-in_err-count-clause-gave : goal.returns-in_err-count-clause-gave
+returns-in_err-count-clause-gave g c =
+    let inv = c.pieces.invariant in
+    let p = c.args.path.now in
+    gave_end _ _ _ (λ t. c.pieces.at) (λ t. 0) (λ t. file_length (t p)) inv.kept.tree inv.gave (nothing_most _ _ _ (λ t. 0) c.in_err-count.ensures.gave_none) (λ t told. omega (arith, front_within _ _ _ (inv.filling.front t told)))
+
+pub returns-then-count-eq0-clause-gave : goal.returns-then-count-eq0-clause-gave
+returns-then-count-eq0-clause-gave g c =
+    let inv = c.pieces.invariant in
+    let p = c.args.path.now in
+    gave_end _ _ _ (λ t. c.pieces.at) (λ t. c.in_ok-count.count) (λ t. file_length (t p)) inv.kept.tree inv.gave (bytes_most _ _ _ c.in_ok-count.count c.in_ok-count.ensures.gave) (λ t told. omega (arith, front_within _ _ _ (inv.filling.front t told), c.if-count-eq0.true))

@@ -1,3 +1,7 @@
+use Rattle.std.proofs.Common.{◌*◌, ◌∙◌, min, arith}
+use Rattle.pn_text.specs.declared.limits.TheConstants.{FILE_LIMIT}
+use Rattle.pn_store.specs.Puts.{file_length}
+use Rattle.pn_store.proofs.GaveLemmas.{gave_behind, short_length}
 use Rattle.pn_store.specs.Own.{IsNoPublish}
 use Rattle.pn_store.proofs.HeldLemmas.{works_none}
 use Rattle.pn_store.proofs.MadeLemmas.{made_none}
@@ -32,3 +36,11 @@ returns-in_err-other-clause-refused g c =
 
 pub returns-in_err-other-clause-works : goal.returns-in_err-other-clause-works
 returns-in_err-other-clause-works g c = works_none c.grew_law.ensures c.claims_law.ensures c.args.claim.now (g.D.StoreDisk.seen c.args.disk.now) c.requires.held
+
+pub returns-clause-gave : goal.returns-clause-gave
+returns-clause-gave g c =
+    let p = c.args.path.now in
+    let kept = c.in_default.ensures.kept in
+    gave_behind _ _ _ (λ t. 2 * file_length (t p)) (λ t. 2 * min (file_length (t p)) FILE_LIMIT) kept.tree c.in_default.ensures.gave c.put_short.ensures.gave (λ t told.
+    let f = c.in_default.ensures.short t (kept.tree ∙ told) in
+    omega (arith, f.short, short_length (t p) f.bytes f.stands))

@@ -3,7 +3,6 @@ use Rattle.std.specs.List.{Contains}
 use Rattle.sha2.specs.Sha512.{sha512}
 use Rattle.pn_digest.specs.Listing.{listing_text}
 use Rattle.pn_storecore.specs.declared.step.StoreStep.TheVariants.{PublishListing}
-use Rattle.pn_text.proofs.Results.{any_err}
 use Rattle.pn_store.specs.Own.{IsNoPublish}
 use Rattle.pn_store.proofs.HeldLemmas.{works_none}
 use Rattle.pn_store.proofs.MadeLemmas.{made_none, at_most_none}

@@ -1,4 +1,4 @@
-use Rattle.std.proofs.Common.{◌≡◌, ◌≤◌, ◌-◌, ℕ, vec_len, length}
+use Rattle.std.proofs.Common.{◌≡◌, ◌≤◌, ◌-◌, vec_len, length}
 use Rattle.pn_storecore.specs.declared.step.Place.TheVariants.{Listings}
 use Rattle.pn_storecore.specs.Grew.{Grew}
 use Rattle.pn_store.specs.Leaves.{LeavesAll}
