@@ -1,5 +1,6 @@
 // What a run asks of a lock.
 ghost use Rattle.std.specs.Prelude.{◌≡◌};
+ghost use Rattle.pn_spec.specs.Entries.{AreCatalogs};
 ghost use Rattle.pn_asked.specs.Asked.{IsAsked, asked};
 
 use pn_spec::{CatalogEntry, Catalogs};
@@ -71,7 +72,8 @@ impl Asked {
 
     /// The entries of the catalogs.
     pub fn catalogs(&self) -> &[CatalogEntry]
-        ensures { result.now ≡ self.now.catalogs }
+        ensures list { result.now ≡ self.now.catalogs }
+        ensures kept { AreCatalogs self.now.catalogs }
     {
         self.catalogs.as_slice()
     }

@@ -20,3 +20,4 @@ pub use asked::{Asked, AskedProject};
 pub use difference::Difference;
 pub use first::first_difference;
 pub use laws::fits_law;
+pub use spots::{Spot, catalog_named};

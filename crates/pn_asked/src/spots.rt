@@ -10,13 +10,13 @@ use std::cmp::Ordering;
 
 /// An entry of a catalog.
 #[derive(Drop)]
-pub(crate) struct Spot {
+pub struct Spot {
     pub catalog: Text,
     pub name: Text,
 }
 
 /// The catalog that a specifier names.
-pub(crate) fn catalog_named(alloc: Global, specifier: &str) -> Result<Option<Text>, Memory>
+pub fn catalog_named(alloc: Global, specifier: &str) -> Result<Option<Text>, Memory>
     ensures { IfOk result (λ c. c ≡ catalog_named specifier.now) }
 {
     match Spec::read(alloc, specifier) {

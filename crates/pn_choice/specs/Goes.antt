@@ -1,15 +1,16 @@
 -- Calls that only read, one after the other.
 use Rattle.std.proofs.Common.{◌≡◌, ℕ, Bool, true, false, List, [], ◌∷◌, ◌++◌, refl, sym, ap, ◌∙◌, subst, inl, inr}
 use Rattle.std.specs.List.{Contains}
-use Rattle.std.proofs.lemmas.List.Elements.{Contains-append_cases}
+use Rattle.std.proofs.lemmas.List.Elements.{Contains-append_left, Contains-append_right, Contains-append_cases}
 use Rattle.pn_text.proofs.Bools.{true_false}
 use Rattle.pn_text.proofs.Members.{none_in}
 use Rattle.pn_fs.specs.Seen.{Seen}
 use Rattle.pn_fs.proofs.SeenLemmas.{keeps_on, keeps_same, rose_from}
 use Rattle.pn_walk.specs.Graphs.{IsDistinct}
 use Rattle.pn_walk.specs.Wants.{Id}
+use Rattle.pn_walk.specs.declared.wish.Wish.{Wish}
 use Rattle.pn_walk.proofs.ReadsLemmas.{distinct_on}
-use Rattle.pn_choice.specs.Calls.{Ask, manifest, listing, Asks, packages_of, names_of, ReadsThese, Learns}
+use Rattle.pn_choice.specs.Calls.{Ask, manifest, listing, Asks, packages_of, names_of, IsSought, ReadsThese, Learns}
 use Rattle.pn_choice.specs.Ways.{Goes, Broke}
 use Rattle.pn_choice.specs.declared.way.WayFault.{WayFault}
 use Rattle.pn_choice.specs.declared.way.WayFault.TheVariants.{Unsupported, Unbuilt, NoVersion, Registry, Fault, Memory}
@@ -46,14 +47,24 @@ never_before : (b c : Bool) → (b ≡ true → c ≡ true) → c ≡ false → 
 never_before true c still is = absurd (true_false c (still refl) is)
 never_before false c still is = refl
 
-pub reads_on : (f g h : List ℕ → Bool) (a b c : Seen) (is js : List Id) → Learns f g a is b → ReadsThese g h b js c → ReadsThese f h a (is ++ js) c
-reads_on f g h a b c is js l k =
+sought_left : (ws vs : List Wish) (n : List ℕ) → IsSought (Contains ws) n → IsSought (Contains (ws ++ vs)) n
+sought_left ws vs n h = record { wish = h.wish; one = Contains-append_left ws vs h.wish h.one; unchosen = h.unchosen; want = h.want; reads = h.reads }
+
+sought_right : (ws vs : List Wish) (n : List ℕ) → IsSought (Contains vs) n → IsSought (Contains (ws ++ vs)) n
+sought_right ws vs n h = record { wish = h.wish; one = Contains-append_right ws vs h.wish h.one; unchosen = h.unchosen; want = h.want; reads = h.reads }
+
+pub reads_on : (f g h : List ℕ → Bool) (a b c : Seen) (ws vs : List Wish) (is js : List Id) → Learns f g a (IsSought (Contains ws)) is b → ReadsThese g h b (IsSought (Contains vs)) js c → ReadsThese f h a (IsSought (Contains (ws ++ vs))) (is ++ js) c
+reads_on f g h a b c ws vs is js l k =
     let r = l.reads in
     record {
       asks = r.asks ++ k.asks;
       made = asks_on r.asks k.asks a b c r.made k.made;
       packages = packages_on r.asks k.asks ∙ ap (λ (x : List Id). x ++ packages_of k.asks) r.packages ∙ ap (λ (x : List Id). is ++ x) k.packages;
       once = subst IsDistinct (sym (names_on r.asks k.asks)) (distinct_on (names_of r.asks) (names_of k.asks) r.once k.once (λ n i j. true_false (g n) (l.learnt n i) (k.unknown n j)));
+      asked = λ n i. elim (Contains-append_cases (names_of r.asks) (names_of k.asks) n (subst (λ (x : List (List ℕ)). Contains x n) (names_on r.asks k.asks) i)) [
+        | inl j ↦ sought_left ws vs n (r.asked n j)
+        | inr j ↦ sought_right ws vs n (k.asked n j)
+      ];
       unknown = λ n i. elim (Contains-append_cases (names_of r.asks) (names_of k.asks) n (subst (λ (x : List (List ℕ)). Contains x n) (names_on r.asks k.asks) i)) [
         | inl j ↦ r.unknown n j
         | inr j ↦ never_before (f n) (g n) (r.still n) (k.unknown n j)
@@ -61,18 +72,18 @@ reads_on f g h a b c is js l k =
       still = λ n i. k.still n (r.still n i);
     }
 
-pub learns_on : (f g h : List ℕ → Bool) (a b c : Seen) (is js : List Id) → Learns f g a is b → Learns g h b js c → Learns f h a (is ++ js) c
+pub learns_on : (f g h : List ℕ → Bool) (a b c : Seen) (ws vs : List Wish) (is js : List Id) → Learns f g a (IsSought (Contains ws)) is b → Learns g h b (IsSought (Contains vs)) js c → Learns f h a (IsSought (Contains (ws ++ vs))) (is ++ js) c
 unfolding reads_on
-learns_on f g h a b c is js l k = record {
-  reads = reads_on f g h a b c is js l k.reads;
+learns_on f g h a b c ws vs is js l k = record {
+  reads = reads_on f g h a b c ws vs is js l k.reads;
   learnt = λ n i. elim (Contains-append_cases (names_of l.reads.asks) (names_of k.reads.asks) n (subst (λ (x : List (List ℕ)). Contains x n) (names_on l.reads.asks k.reads.asks) i)) [
     | inl j ↦ k.reads.still n (l.learnt n j)
     | inr j ↦ k.learnt n j
   ];
 }
 
-pub learns_nothing : (f : List ℕ → Bool) (a : Seen) → Learns f f a [] a
-learns_nothing f a = record {
-  reads = record { asks = []; made = refl; packages = refl; once = tt; unknown = λ n i. absurd (none_in n i); still = λ n i. i };
+pub learns_nothing : (Sought : List ℕ → Type 0) (f : List ℕ → Bool) (a : Seen) → Learns f f a Sought [] a
+learns_nothing Sought f a = record {
+  reads = record { asks = []; made = refl; packages = refl; once = tt; asked = λ n i. absurd (none_in n i); unknown = λ n i. absurd (none_in n i); still = λ n i. i };
   learnt = λ n i. absurd (none_in n i);
 }

@@ -1,11 +1,12 @@
 // What a plain graph is made from.
-ghost use Rattle.std.specs.Prelude.{◌≡◌, ℕ, List, [], IfOk, OnOk, OnErr, IfErr, IsSome, Option, option_map};
+ghost use Rattle.std.specs.Prelude.{◌≡◌, ℕ, List, [], ◌∷◌, IfOk, OnOk, OnErr, IfErr, IsSome, Option, option_map};
+ghost use Rattle.std.specs.List.{Contains};
 ghost use Rattle.pn_fs.specs.Tree.{Tree};
 ghost use Rattle.std.specs.BTreeMap.{get_by_text};
 ghost use Rattle.pn_spec.specs.declared.want.Want.{Want as TheWant};
 ghost use Rattle.pn_plain.specs.Readings.{of_package};
 ghost use Rattle.pn_choice.specs.Cached.{AreShown, KeepsShelves, AsksOnce};
-ghost use Rattle.pn_choice.specs.Calls.{knows, ReadsThese, Learns};
+ghost use Rattle.pn_choice.specs.Calls.{knows, IsSought, ReadsThese, Learns};
 ghost use Rattle.pn_choice.specs.Ways.{Goes, IsUnlisted, Broke, IsVersionIn, LeadsBy, IsLost, Loses, ReadsAs};
 
 use crate::asked::{NamedWant, asked};
@@ -46,6 +47,7 @@ impl<'a, 'b, 'c, R: ReadFs> Sources<'a, 'b, 'c, R> {
         ensures same_reference { result.registry.ghost_name ≡ registry.entry.ghost_name }
         ensures registry { result.registry.now ≡ registry.old }
         ensures held { result.held.now ≡ held.now }
+        ensures shelves { result.shelves.now ≡ shelves.old }
         ensures good { AreShown (R.seen result.registry.now).tree result.shelves.now }
     {
         Sources {
@@ -66,8 +68,8 @@ impl<'a, 'b, 'c, R: ReadFs> Sources<'a, 'b, 'c, R> {
         ensures good { AreShown (R.seen self.new.registry.now).tree self.new.shelves.now }
         ensures known { KeepsShelves self.old.shelves.now self.new.shelves.now }
         ensures once { (n : List ℕ) (v : TheWant) → ReadsAs wish.now (of_package n v) → AsksOnce self.old.shelves.now n (R.seen self.old.registry.now) (R.seen self.new.registry.now) }
-        ensures learns { OnOk result (Learns (knows self.old.shelves.now) (knows self.new.shelves.now) (R.seen self.old.registry.now) [] (R.seen self.new.registry.now)) }
-        ensures reads { OnErr result (ReadsThese (knows self.old.shelves.now) (knows self.new.shelves.now) (R.seen self.old.registry.now) [] (R.seen self.new.registry.now)) }
+        ensures learns { OnOk result (Learns (knows self.old.shelves.now) (knows self.new.shelves.now) (R.seen self.old.registry.now) (IsSought (Contains (wish.now ∷ []))) [] (R.seen self.new.registry.now)) }
+        ensures reads { OnErr result (ReadsThese (knows self.old.shelves.now) (knows self.new.shelves.now) (R.seen self.old.registry.now) (IsSought (Contains (wish.now ∷ []))) [] (R.seen self.new.registry.now)) }
         ensures broke { IfErr result (Broke (R.seen self.old.registry.now) (R.seen self.new.registry.now)) }
     {
         let asked = asked(alloc, wish)?;
@@ -88,8 +90,8 @@ impl<'a, 'b, 'c, R: ReadFs> Sources<'a, 'b, 'c, R> {
         ensures good { AreShown (R.seen self.new.registry.now).tree self.new.shelves.now }
         ensures known { KeepsShelves self.old.shelves.now self.new.shelves.now }
         ensures once { AsksOnce self.old.shelves.now asked.name (R.seen self.old.registry.now) (R.seen self.new.registry.now) }
-        ensures learns { OnOk result (Learns (knows self.old.shelves.now) (knows self.new.shelves.now) (R.seen self.old.registry.now) [] (R.seen self.new.registry.now)) }
-        ensures reads { OnErr result (ReadsThese (knows self.old.shelves.now) (knows self.new.shelves.now) (R.seen self.old.registry.now) [] (R.seen self.new.registry.now)) }
+        ensures learns { OnOk result (Learns (knows self.old.shelves.now) (knows self.new.shelves.now) (R.seen self.old.registry.now) (λ n. n ≡ asked.name) [] (R.seen self.new.registry.now)) }
+        ensures reads { OnErr result (ReadsThese (knows self.old.shelves.now) (knows self.new.shelves.now) (R.seen self.old.registry.now) (λ n. n ≡ asked.name) [] (R.seen self.new.registry.now)) }
         ensures broke { IfErr result (Broke (R.seen self.old.registry.now) (R.seen self.new.registry.now)) }
     {
         self.list(alloc, &asked.name)?;
@@ -109,8 +111,8 @@ impl<'a, 'b, 'c, R: ReadFs> Sources<'a, 'b, 'c, R> {
         ensures good { AreShown (R.seen self.new.registry.now).tree self.new.shelves.now }
         ensures known { KeepsShelves self.old.shelves.now self.new.shelves.now }
         ensures once { AsksOnce self.old.shelves.now name.now (R.seen self.old.registry.now) (R.seen self.new.registry.now) }
-        ensures learns { OnOk result (Learns (knows self.old.shelves.now) (knows self.new.shelves.now) (R.seen self.old.registry.now) [] (R.seen self.new.registry.now)) }
-        ensures reads { OnErr result (ReadsThese (knows self.old.shelves.now) (knows self.new.shelves.now) (R.seen self.old.registry.now) [] (R.seen self.new.registry.now)) }
+        ensures learns { OnOk result (Learns (knows self.old.shelves.now) (knows self.new.shelves.now) (R.seen self.old.registry.now) (λ n. n ≡ name.now) [] (R.seen self.new.registry.now)) }
+        ensures reads { OnErr result (ReadsThese (knows self.old.shelves.now) (knows self.new.shelves.now) (R.seen self.old.registry.now) (λ n. n ≡ name.now) [] (R.seen self.new.registry.now)) }
         ensures broke { IfErr result (Broke (R.seen self.old.registry.now) (R.seen self.new.registry.now)) }
     {
         if self.shelves.contains_key(name.as_str()) {

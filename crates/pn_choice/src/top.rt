@@ -6,12 +6,14 @@ ghost use Rattle.pn_manifest.specs.Said.{AreRising};
 ghost use Rattle.pn_graph.specs.declared.links.Package.{Package};
 ghost use Rattle.pn_walk.specs.Calls.{at};
 ghost use Rattle.pn_walk.specs.Graphs.{id_of};
-ghost use Rattle.pn_walk.specs.Walks.{IsWalked};
+ghost use Rattle.pn_walk.specs.Reads.{HasRead};
+ghost use Rattle.pn_walk.specs.Starts.{turns_from};
+ghost use Rattle.pn_walk.specs.Walks.{start, IsWalked};
 ghost use Rattle.pn_shape.specs.Fits.{IsFit};
 ghost use Rattle.pn_shape.specs.Shapes.{IsShape};
 ghost use Rattle.pn_choice.specs.Cached.{AreShown};
-ghost use Rattle.pn_choice.specs.Calls.{knows, ReadsEach, ReadsSome};
-ghost use Rattle.pn_choice.specs.Given.{folder_of, IsRisingProject, inputs_by, first};
+ghost use Rattle.pn_choice.specs.Calls.{knows, IsAskedName, ReadsEach, ReadsFor, ReadsUntil};
+ghost use Rattle.pn_choice.specs.Given.{asked_by, folder_of, IsRisingProject, inputs_by, first};
 ghost use Rattle.pn_choice.specs.Graphs.{IsGraphOf};
 ghost use Rattle.pn_choice.specs.Refusals.{Refuses, Unplain, choice_of};
 ghost use Rattle.pn_choice.specs.Shows.{IsNodeOf};
@@ -46,8 +48,8 @@ pub fn plain<R: ReadFs>(
     requires few { length projects.now < 2 ^ 32 }
     ensures plain { IfOk result (IsGraphOf (R.seen sources.old.registry.now).tree (inputs_by projects.now sources.old.held.now auto_peers) root) }
     ensures refused { IfErr result (Refuses (λ r f. Unplain (inputs_by projects.now sources.old.held.now auto_peers) r f) (R.seen sources.old.registry.now) (R.seen sources.new.registry.now)) }
-    ensures read { IfOk result (λ p. ReadsEach (knows sources.old.shelves.now) (knows sources.new.shelves.now) (R.seen sources.old.registry.now) (map (λ (q : Package). q.id) p.packages) (R.seen sources.new.registry.now)) }
-    ensures once { OnErr result (ReadsSome (knows sources.old.shelves.now) (knows sources.new.shelves.now) (R.seen sources.old.registry.now) (R.seen sources.new.registry.now)) }
+    ensures read { IfOk result (λ p. ReadsEach (knows sources.old.shelves.now) (knows sources.new.shelves.now) (R.seen sources.old.registry.now) (IsAskedName (R.seen sources.old.registry.now).tree projects.now sources.old.held.now auto_peers) (map (λ (q : Package). q.id) p.packages) (R.seen sources.new.registry.now)) }
+    ensures once { OnErr result (ReadsUntil (knows sources.old.shelves.now) (knows sources.new.shelves.now) (R.seen sources.old.registry.now) (LeadsBy (R.seen sources.old.registry.now).tree sources.old.held.now) (IsNodeOf (R.seen sources.old.registry.now).tree) (turns_from 0 (map (asked_by auto_peers) projects.now)) (R.seen sources.new.registry.now)) }
     ensures kept { Keeps (R.seen sources.old.registry.now) (R.seen sources.new.registry.now) }
     ensures same_reference { sources.new.registry.ghost_name ≡ sources.old.registry.ghost_name }
     ensures held { sources.new.held.now ≡ sources.old.held.now }
@@ -69,8 +71,9 @@ fn walk<R: ReadFs>(
     requires few { length projects.now < 2 ^ 32 }
     ensures walked { IfOk result (λ q. IsWalked (LeadsBy (R.seen sources.old.registry.now).tree sources.old.held.now) (IsNodeOf (R.seen sources.old.registry.now).tree) (first auto_peers projects.now) (at [] q)) }
     ensures refused { IfErr result (Refuses (λ r f. Unplain (inputs_by projects.now sources.old.held.now auto_peers) r f) (R.seen sources.old.registry.now) (R.seen sources.new.registry.now)) }
-    ensures read { IfOk result (λ q. ReadsEach (knows sources.old.shelves.now) (knows sources.new.shelves.now) (R.seen sources.old.registry.now) (map id_of q.nodes.items) (R.seen sources.new.registry.now)) }
-    ensures once { OnErr result (ReadsSome (knows sources.old.shelves.now) (knows sources.new.shelves.now) (R.seen sources.old.registry.now) (R.seen sources.new.registry.now)) }
+    ensures read { IfOk result (λ q. ReadsEach (knows sources.old.shelves.now) (knows sources.new.shelves.now) (R.seen sources.old.registry.now) (IsAskedName (R.seen sources.old.registry.now).tree projects.now sources.old.held.now auto_peers) (map id_of q.nodes.items) (R.seen sources.new.registry.now)) }
+    ensures all { IfOk result (λ q. HasRead (ReadsFor (knows sources.old.shelves.now) (knows sources.new.shelves.now) (R.seen sources.old.registry.now) (R.seen sources.new.registry.now)) (start (turns_from 0 (map (asked_by auto_peers) projects.now))) (at [] q)) }
+    ensures once { OnErr result (ReadsUntil (knows sources.old.shelves.now) (knows sources.new.shelves.now) (R.seen sources.old.registry.now) (LeadsBy (R.seen sources.old.registry.now).tree sources.old.held.now) (IsNodeOf (R.seen sources.old.registry.now).tree) (turns_from 0 (map (asked_by auto_peers) projects.now)) (R.seen sources.new.registry.now)) }
     ensures kept { Keeps (R.seen sources.old.registry.now) (R.seen sources.new.registry.now) }
     ensures same_reference { sources.new.registry.ghost_name ≡ sources.old.registry.ghost_name }
     ensures held { sources.new.held.now ≡ sources.old.held.now }

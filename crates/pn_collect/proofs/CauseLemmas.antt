@@ -11,7 +11,7 @@ use Rattle.pn_registry.specs.Places.{package_folder}
 use Rattle.pn_registry.specs.declared.contents.FilesFault.{FilesFault}
 use Rattle.pn_registry.specs.declared.contents.FilesFault.TheVariants.{Modules as FileModules, TooLarge as FileTooLarge, Entries as FileEntries, Fault as FileFault, Memory as FileMemory}
 use Rattle.pn_registry.proofs.FilesLawLemmas as files
-use Rattle.pn_layout.specs.Links.{Id}
+use Rattle.pn_package.specs.Links.{Id}
 use Rattle.pn_collect.specs.CollectFaults.{NoFiles}
 use Rattle.pn_collect.specs.Laws.{CauseLaw}
 use Rattle.pn_collect.specs.Outline.{HasPassed, node_id}

@@ -7,7 +7,7 @@ use Rattle.pn_fs.specs.Tree.{Tree}
 use Rattle.pn_registry.specs.FilesFaults.{FilesRefused, IsFirstModules}
 use Rattle.pn_registry.specs.Places.{package_folder}
 use Rattle.pn_registry.specs.declared.contents.FilesFault.TheVariants.{Modules as FileModules}
-use Rattle.pn_layout.specs.Links.{Id}
+use Rattle.pn_package.specs.Links.{Id}
 use Rattle.pn_collect.specs.CollectFaults.{NoFiles, CollectRefuses, NamesModules}
 use Rattle.pn_collect.specs.declared.fault.CollectFault.{CollectFault}
 use Rattle.pn_collect.specs.declared.fault.CollectFault.TheVariants.{Modules, TooLarge, Entries, Fault, Memory}

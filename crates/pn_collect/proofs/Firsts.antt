@@ -9,7 +9,7 @@ use Rattle.pn_text.specs.First.{FirstFails}
 use Rattle.pn_fs.specs.Tree.{Tree}
 use Rattle.pn_graph.specs.declared.plain.Plain.{Plain}
 use Rattle.pn_registry.specs.Places.{package_folder}
-use Rattle.pn_layout.specs.declared.packages.Package.{Package}
+use Rattle.pn_package.specs.declared.packages.Package.{Package}
 use Rattle.pn_collect.specs.CollectFaults.{NoFiles, IsFirstRefused}
 use Rattle.pn_collect.specs.Outline.{Outline, outline, dressed, bare_of, bare_id, IsMade, HasFiles, HasPassed, AreSoundFiles, AreFilesBelow}
 use Rattle.pn_collect.specs.declared.bare.Bare.{Bare}

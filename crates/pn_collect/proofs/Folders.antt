@@ -7,7 +7,7 @@ use Rattle.pn_text.specs.Name.{is_name, name_path}
 use Rattle.pn_text.proofs.Bools.{and_left, and_right}
 use Rattle.pn_text.proofs.IdTexts.{text_again}
 use Rattle.pn_text.proofs.NameTexts.{name_of, name_text}
-use Rattle.pn_layout.specs.Links.{Id}
+use Rattle.pn_package.specs.Links.{Id}
 use Rattle.pn_registry.specs.Places.{package_folder}
 
 named_length : (id : Id) → is_name (id_name id) ≡ true → length (text_below (name_path (id_name id))) ≡ length (id_name id) + 1

@@ -9,7 +9,7 @@ use Rattle.std.proofs.lemmas.List.Folds.{list_any_at}
 use Rattle.std.proofs.lemmas.Slice.Eq.{bytes_eq-Decides}
 use Rattle.pn_text.proofs.Bools.{and_left, and_right, not_true}
 use Rattle.pn_graph.specs.Graphs.{has_name, distinct}
-use Rattle.pn_layout.specs.Links.{Id}
+use Rattle.pn_package.specs.Links.{Id}
 use Rattle.pn_collect.proofs.SortedTexts.{below_text, not_before, sorted_tail}
 
 pub true_false : {A : Type 0} → true ≡ false → A

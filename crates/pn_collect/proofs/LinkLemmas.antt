@@ -21,9 +21,9 @@ use Rattle.pn_graph.specs.declared.links.Dep.{Dep}
 use Rattle.pn_graph.specs.declared.links.Package.{Package as Node}
 use Rattle.pn_graph.specs.Lookups.{package_id as package_id_of}
 use Rattle.pn_graph.proofs.RangeLemmas.{passes}
-use Rattle.pn_layout.specs.Links.{Pair, IsRising, aliases as names}
-use Rattle.pn_layout.specs.Sound.{IsSoundPair, AreSoundLinks}
-use Rattle.pn_layout.proofs.Contents.{from_flat_map}
+use Rattle.pn_package.specs.Links.{Pair, IsRising, aliases as names}
+use Rattle.pn_package.specs.Sound.{IsSoundPair, AreSoundLinks}
+use Rattle.pn_package.proofs.Contents.{from_flat_map}
 use Rattle.pn_collect.specs.Outline.{link_to, links_of}
 
 abbrev to_links : List Node → Dep → List Pair

@@ -16,9 +16,9 @@ use Rattle.pn_registry.specs.Apart.{AreApart}
 use Rattle.pn_registry.specs.Below.{HasFew}
 use Rattle.pn_registry.specs.FilesFaults.{entry_limit}
 use Rattle.pn_registry.specs.Places.{package_folder}
-use Rattle.pn_layout.specs.Links.{Id}
-use Rattle.pn_layout.specs.Sound.{AreSoundLinks}
-use Rattle.pn_layout.specs.declared.packages.Package.{Package}
+use Rattle.pn_package.specs.Links.{Id}
+use Rattle.pn_package.specs.Sound.{AreSoundLinks}
+use Rattle.pn_package.specs.declared.packages.Package.{Package}
 use Rattle.pn_collect.specs.Outline.{outline, dressed, HasFiles, AreFilesBelow, AreSoundFiles, IsMade, IsBelow, path_of}
 use Rattle.pn_collect.specs.declared.bare.Bare.{Bare}
 

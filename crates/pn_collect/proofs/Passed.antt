@@ -16,7 +16,7 @@ use Rattle.pn_collect.specs.Laws.{PassedLaw}
 use Rattle.pn_collect.specs.Outline.{Outline, outline, wanted, node_id, HasPassed, AreFilesBelow}
 use Rattle.pn_collect.specs.declared.fault.CollectFault.{CollectFault}
 use Rattle.pn_collect.specs.declared.fault.CollectFault.TheVariants.{Modules, TooLarge, Entries, Fault, Memory}
-use Rattle.pn_layout.specs.Links.{Id}
+use Rattle.pn_package.specs.Links.{Id}
 use Rattle.pn_collect.proofs.IdLists.{true_false}
 use Rattle.pn_collect.proofs.Listing.{entry_there}
 

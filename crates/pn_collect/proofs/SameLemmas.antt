@@ -7,8 +7,8 @@ use Rattle.std.proofs.lemmas.List.Sorted.{Contains-permutation, IsPermutation-sy
 use Rattle.pn_text.specs.Path.{Path, text_below}
 use Rattle.pn_text.proofs.Members.{here, there}
 use Rattle.pn_fs.specs.Tree.{Tree, IsFile}
-use Rattle.pn_layout.specs.declared.packages.Package.{Package}
-use Rattle.pn_layout.specs.Sound.{Contents, contents}
+use Rattle.pn_package.specs.declared.packages.Package.{Package}
+use Rattle.pn_package.specs.Sound.{Contents, contents}
 use Rattle.pn_collect.specs.Laws.{SameLaw}
 use Rattle.pn_collect.specs.Outline.{Outline, outline, wanted, AreFilesBelow, AreRising}
 use Rattle.pn_collect.proofs.SortedTexts.{one_list}

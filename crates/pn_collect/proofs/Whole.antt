@@ -16,9 +16,9 @@ use Rattle.pn_graph.specs.declared.links.Dep.{Dep}
 use Rattle.pn_graph.specs.declared.links.Package.{Package as Node}
 use Rattle.pn_graph.specs.Lookups.{project_deps}
 use Rattle.pn_graph.specs.declared.plain.Plain.{Plain}
-use Rattle.pn_layout.specs.Links.{Id, Pair}
-use Rattle.pn_layout.specs.declared.packages.Package.{Package}
-use Rattle.pn_layout.specs.Sound.{AreSoundLinks, IsSoundPackage, AreSound, IsAmong, AreWhole, FilesStand}
+use Rattle.pn_package.specs.Links.{Id, Pair}
+use Rattle.pn_package.specs.declared.packages.Package.{Package}
+use Rattle.pn_package.specs.Sound.{AreSoundLinks, IsSoundPackage, AreSound, IsAmong, AreWhole, FilesStand}
 use Rattle.pn_collect.specs.Outline.{Outline, outline, wanted, bare_of, dressed, bare_id, node_id, package_id, links_of, direct_of, IsMade, HasFiles, HaveFiles}
 use Rattle.pn_collect.specs.Packages.{ArePackages}
 use Rattle.pn_collect.specs.declared.bare.Bare.{Bare}

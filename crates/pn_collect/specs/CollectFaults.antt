@@ -14,7 +14,7 @@ use Rattle.pn_registry.specs.Below.{HasMany}
 use Rattle.pn_registry.specs.Files.{file_limit}
 use Rattle.pn_registry.specs.FilesFaults.{IsFirstModules, IsFirstLarge, entry_limit}
 use Rattle.pn_registry.specs.Places.{package_folder}
-use Rattle.pn_layout.specs.Links.{Id}
+use Rattle.pn_package.specs.Links.{Id}
 use Rattle.pn_collect.specs.Outline.{HasPassed, node_id}
 use Rattle.pn_collect.specs.declared.fault.CollectFault.{CollectFault}
 use Rattle.pn_collect.specs.declared.fault.CollectFault.TheVariants.{Modules, TooLarge, Entries, Fault, Memory}

@@ -2,8 +2,8 @@
 use Rattle.std.specs.Prelude.{◌≡◌, List, map, Some}
 use Rattle.pn_fs.specs.Tree.{Tree, IsTree}
 use Rattle.pn_graph.specs.declared.plain.Plain.{Plain}
-use Rattle.pn_layout.specs.declared.packages.Package.{Package}
-use Rattle.pn_layout.specs.Sound.{contents}
+use Rattle.pn_package.specs.declared.packages.Package.{Package}
+use Rattle.pn_package.specs.Sound.{contents}
 use Rattle.pn_collect.specs.CollectFaults.{IsFirstRefused}
 use Rattle.pn_collect.specs.Packages.{ArePackages}
 use Rattle.pn_collect.specs.declared.fault.CollectFault.{CollectFault}

@@ -19,9 +19,9 @@ use Rattle.pn_registry.specs.Below.{HasFew}
 use Rattle.pn_registry.specs.Files.{File, file_limit, holds_line_feed}
 use Rattle.pn_registry.specs.FilesFaults.{entry_limit}
 use Rattle.pn_registry.specs.Places.{package_folder}
-use Rattle.pn_layout.specs.declared.packages.Package.{Package}
-use Rattle.pn_layout.specs.Links.{Id, Pair}
-use Rattle.pn_layout.specs.Sound.{AreSoundLinks}
+use Rattle.pn_package.specs.declared.packages.Package.{Package}
+use Rattle.pn_package.specs.Links.{Id, Pair}
+use Rattle.pn_package.specs.Sound.{AreSoundLinks}
 use Rattle.pn_collect.specs.declared.bare.Bare.{Bare}
 
 -- an alias with the id of the package that it leads to; none where it leads to a project

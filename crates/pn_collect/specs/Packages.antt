@@ -10,9 +10,9 @@ use Rattle.pn_fs.specs.Tree.{Tree, folder}
 use Rattle.pn_graph.specs.declared.links.Package.{Package as Node}
 use Rattle.pn_graph.specs.declared.plain.Plain.{Plain}
 use Rattle.pn_registry.specs.Places.{package_folder}
-use Rattle.pn_layout.specs.Links.{Id}
-use Rattle.pn_layout.specs.declared.packages.Package.{Package}
-use Rattle.pn_layout.specs.Sound.{AreSound, AreSoundLinks, AreWhole, FilesStand}
+use Rattle.pn_package.specs.Links.{Id}
+use Rattle.pn_package.specs.declared.packages.Package.{Package}
+use Rattle.pn_package.specs.Sound.{AreSound, AreSoundLinks, AreWhole, FilesStand}
 use Rattle.pn_collect.specs.Outline.{direct_of, outline, wanted, package_id, AreRising, HaveFiles, IsMade}
 
 -- each package's folder stands in the registry, where that is told

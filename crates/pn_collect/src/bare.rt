@@ -8,7 +8,7 @@ ghost use Rattle.pn_collect.specs.Outline.{bare_of, bare_id, IsSoundBare};
 
 use crate::links::links;
 use pn_graph::{Package as Node, Plain};
-use pn_layout::Links;
+use pn_package::Links;
 use pn_text::{Memory, PkgId};
 use std::alloc::Global;
 use std::cmp::Ordering;

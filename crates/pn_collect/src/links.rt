@@ -2,12 +2,12 @@
 ghost use Rattle.std.specs.Prelude.{◌≡◌, ◌<◌, ◌++◌, ◌∷◌, [], IfOk, OnOk, length, map, true};
 ghost use Rattle.std.specs.List.{All};
 ghost use Rattle.pn_graph.specs.Graphs.{are_deps, in_range};
-ghost use Rattle.pn_layout.specs.Listed.{pair_of};
-ghost use Rattle.pn_layout.specs.Sound.{AreSoundLinks, IsSoundPair};
+ghost use Rattle.pn_package.specs.Listed.{pair_of};
+ghost use Rattle.pn_package.specs.Sound.{AreSoundLinks, IsSoundPair};
 ghost use Rattle.pn_collect.specs.Outline.{link_to, links_of, direct_of};
 
 use pn_graph::{At, Dep, Plain};
-use pn_layout::{Link, Links};
+use pn_package::{Link, Links};
 use pn_text::{Memory, PkgIx, PkgName};
 use std::alloc::Global;
 

@@ -12,7 +12,7 @@ use crate::fault::CollectFault;
 use crate::folder::{modules, package_folder};
 use crate::paths::paths;
 use pn_fs::ReadFs;
-use pn_layout::Package;
+use pn_package::Package;
 use pn_registry::{FilesFault, files};
 use pn_text::{AbsPath, Memory, PkgId, RelPath};
 use std::alloc::Global;

@@ -13,7 +13,7 @@ use crate::links::direct;
 use crate::package::package;
 use pn_fs::ReadFs;
 use pn_graph::Plain;
-use pn_layout::{Links, Package};
+use pn_package::{Links, Package};
 use pn_text::Memory;
 use std::alloc::Global;
 

@@ -203,17 +203,19 @@ reached_next leads node own s e rest i h next aims =
           through a.0 e.wish i (All-contains (Reaches leads node own) (map id_of s.met) a.0.id h.sound (to_map id_of s.met a.0 a.1)) (All-contains node s.met a.0 h.nodes a.1) a.2 aims
     ]
 
--- The first edge that waits is a project's, or that of a package that is reached.
-pub asked_next : (leads : Wish → Option Aim → Type 0) (node : Node → Type 0) (own : List Turn) (s : State) (e : Turn) (rest : List Turn) → Fits leads node own s → s.todo ≡ e ∷ rest → IsAsked leads node own e
+-- An edge that was taken or that waits is a project's, or that of a package that is reached.
+pub asked_all : (leads : Wish → Option Aim → Type 0) (node : Node → Type 0) (own : List Turn) (s : State) (e : Turn) → Fits leads node own s → Contains (map turn_of s.links ++ s.todo) e → IsAsked leads node own e
 unfolding Asked
-asked_next leads node own s e rest h next =
-    let waits : Contains (map turn_of s.links ++ s.todo) e = Contains-append_right (map turn_of s.links) s.todo e (subst (λ (l : List Turn). Contains l e) (sym next) (0, omega arith, refl)) in
-    elim (Contains-append_cases own (turns_of 0 s.met) e (moved e (map turn_of s.links ++ s.todo) (own ++ turns_of 0 s.met) (h.edges e.who) waits)) [
+asked_all leads node own s e h c =
+    elim (Contains-append_cases own (turns_of 0 s.met) e (moved e (map turn_of s.links ++ s.todo) (own ++ turns_of 0 s.met) (h.edges e.who) c)) [
       | inl mine ↦ by_project mine
       | inr theirs ↦
           let a : Asked s.met e = All-contains (Asked s.met) (turns_of 0 s.met) e (all_asked 0 s.met) theirs in
           by_package a.0 (All-contains (Reaches leads node own) (map id_of s.met) a.0.id h.sound (to_map id_of s.met a.0 a.1)) (All-contains node s.met a.0 h.nodes a.1) a.2
     ]
+
+pub asked_next : (leads : Wish → Option Aim → Type 0) (node : Node → Type 0) (own : List Turn) (s : State) (e : Turn) (rest : List Turn) → Fits leads node own s → s.todo ≡ e ∷ rest → IsAsked leads node own e
+asked_next leads node own s e rest h next = asked_all leads node own s e h (Contains-append_right (map turn_of s.links) s.todo e (subst (λ (l : List Turn). Contains l e) (sym next) (0, omega arith, refl)))
 
 queue : (links : List Link) (l : Link) (todo rest own old new : List Turn) (who : Place) → asked_by who (map turn_of links ++ todo) ≡ asked_by who (own ++ old) → todo ≡ turn_of l ∷ rest
     → asked_by who (map turn_of (links ++ l ∷ []) ++ (rest ++ new)) ≡ asked_by who (own ++ (old ++ new))

@@ -71,14 +71,14 @@ stops_on leads node lost unread folders xs ys zs all q r f is a b = record {
 abbrev state : List Turn → List Node → List Link → State
 state todo met links = record { todo = todo; met = met; links = links }
 
-begins : (own : List Turn) (q : Queue) → q.nodes.items ≡ [] → q.links.items ≡ [] → at own q ≡ start own
-begins own q n l = ap (λ (x : List Node). state own x (map link_of q.links.items)) n ∙ ap (λ (x : List Taken). state own [] (map link_of x)) l
+pub at_start : (own : List Turn) (q : Queue) → q.nodes.items ≡ [] → q.links.items ≡ [] → at own q ≡ start own
+at_start own q n l = ap (λ (x : List Node). state own x (map link_of q.links.items)) n ∙ ap (λ (x : List Taken). state own [] (map link_of x)) l
 
 -- from nothing
 pub first_walk : (leads : Wish → Option Aim → Type 0) (node : Node → Type 0) (own : List Turn) (q r : Queue) → q.nodes.items ≡ [] → q.links.items ≡ [] → TookAll leads node own q r → Walk leads node (at (turns_of 0 r.nodes.items) r) (start own)
 first_walk leads node own q r no_nodes no_links a =
     let grows : a.added ≡ r.nodes.items = sym (a.grows ∙ ap (λ (l : List Node). l ++ a.added) no_nodes) in
-    let from : at (own ++ []) q ≡ start own = ap (λ (l : List Turn). at l q) (append-nil own) ∙ begins own q no_nodes no_links in
+    let from : at (own ++ []) q ≡ start own = ap (λ (l : List Turn). at l q) (append-nil own) ∙ at_start own q no_nodes no_links in
     let to : at ([] ++ turns_of (length q.nodes.items) a.added) r ≡ at (turns_of 0 r.nodes.items) r = ap (λ (n : ℕ). at (turns_of n a.added) r) (ap length no_nodes) ∙ ap (λ (l : List Node). at (turns_of 0 l) r) grows in
     subst (λ (x : State). Walk leads node (at (turns_of 0 r.nodes.items) r) x) from (subst (λ (x : State). Walk leads node x (at (own ++ []) q)) to (a.walks []))
 
@@ -97,7 +97,7 @@ more_first k ps ws h is =
 pub stops_first : {F : Type 0} (leads : Wish → Option Aim → Type 0) (node : Node → Type 0) (lost : Wish → F → Type 0) (unread : Id → F → Type 0) (folders : List (List ℕ)) (own : List Turn) (q : Queue) (f : WalkFault F) → q.nodes.items ≡ [] → q.links.items ≡ [] → StopsIn leads node lost unread folders own q f → StopsSomewhere leads node lost unread folders (start own) f
 stops_first leads node lost unread folders own q f no_nodes no_links a =
     let T = turns_of (length q.nodes.items) a.took.added in
-    let from : at (a.front ++ a.edge ∷ a.rest) q ≡ start own = ap (λ (l : List Turn). at l q) (sym a.is) ∙ begins own q no_nodes no_links in
+    let from : at (a.front ++ a.edge ∷ a.rest) q ≡ start own = ap (λ (l : List Turn). at l q) (sym a.is) ∙ at_start own q no_nodes no_links in
     record {
       end = at ((a.edge ∷ a.rest) ++ T) a.there;
       stopped = record {

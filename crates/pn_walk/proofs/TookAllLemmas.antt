@@ -43,6 +43,12 @@ took_next leads node who ws i w q r s h is a b =
     (sym (ap (map (turn_by who)) (take_more ws i w h ∙ ap (λ (x : Wish). take i ws ++ x ∷ []) (sym is)) ∙ map-append (turn_by who) (take i ws) (w ∷ [])))
     (took_more leads node (map (turn_by who) (take i ws)) (turn_by who w) q r s a b)
 
+-- the edges before one, it, and those after it
+pub turns_split : (who : Place) (ws : List Wish) (i : ℕ) (w : Wish) (rest : List Turn) → i < length ws → w ≡ get_or ws i w → map (turn_by who) ws ++ rest ≡ map (turn_by who) (take i ws) ++ (turn_by who w ∷ (map (turn_by who) (drop (suc i) ws) ++ rest))
+turns_split who ws i w rest h is =
+    ap (λ (l : List Turn). l ++ rest) (ap (map (turn_by who)) (split_at ws i w h ∙ ap (λ (x : Wish). take i ws ++ x ∷ drop (suc i) ws) (sym is)) ∙ map-append (turn_by who) (take i ws) (w ∷ drop (suc i) ws))
+    ∙ append_assoc (map (turn_by who) (take i ws)) (turn_by who w ∷ map (turn_by who) (drop (suc i) ws)) rest
+
 -- one of the edges is refused
 pub stops_in : {F : Type 0} (leads : Wish → Option Aim → Type 0) (node : Node → Type 0) (lost : Wish → F → Type 0) (unread : Id → F → Type 0) (folders : List (List ℕ)) (who : Place) (ws : List Wish) (i : ℕ) (w : Wish) (q r : Queue) (f : WalkFault F)
     → i < length ws → w ≡ get_or ws i w → TookAll leads node (map (turn_by who) (take i ws)) q r → EdgeRefused leads node lost unread folders r.nodes.items (turn_by who w) f → StopsIn leads node lost unread folders (map (turn_by who) ws) q f

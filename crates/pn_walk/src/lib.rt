@@ -6,8 +6,8 @@
 //! relations are settled, so is the answer: one state or one refusal, that of the first edge in order that can't be taken, by
 //! name.
 //!
-//! A package is read at the edge that first leads to it, and never again: `Ways` says by `follows` and `stops` which packages
-//! calls read, and `walked` that they are those of the walk, each once.
+//! An edge's wish is followed as the edge is taken, and its package read where it wasn't met before: `Ways` says by `follows`
+//! and `stops` which wishes calls follow and which packages they read, and `walked` that they are those of the walk, each once.
 //!
 //! The packages lie in the order in which they are met, and a map has the place of each under its id's text: an edge to a
 //! package that was met costs a look-up.

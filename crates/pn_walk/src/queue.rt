@@ -4,9 +4,9 @@ ghost use Rattle.pn_text.specs.declared.limits.TheConstants.{PACKAGE_LIMIT};
 ghost use Rattle.pn_walk.specs.Keeps.{Keeps};
 ghost use Rattle.pn_walk.specs.Places.{IsTied, KeepsPlace};
 ghost use Rattle.pn_walk.specs.Wants.{Node as TheNode, Place as ThePlace, to_package, at_package};
-ghost use Rattle.pn_walk.specs.Walks.{turn_by, State, Walk, IsWalked, place_of, turns_of};
+ghost use Rattle.pn_walk.specs.Walks.{Turn, turn_by, State, Walk, IsWalked, place_of, turns_of};
 ghost use Rattle.pn_walk.specs.Edges.{AskedFrom};
-ghost use Rattle.pn_walk.specs.Reads.{HasRead, ReadsOnce};
+ghost use Rattle.pn_walk.specs.Reads.{HasRead, ReadsFor, ReadsOnce};
 ghost use Rattle.pn_walk.specs.declared.fault.WalkFault.TheVariants.{Memory as no_memory};
 ghost use Rattle.pn_walk.specs.Calls.{at, link_of, OnWays, Stops, Met, Took, TookAll, StopsIn, IsTooMany, EdgeRefused};
 
@@ -37,8 +37,8 @@ impl Queue {
         ensures kept { Keeps (W.leads ways.old) (W.leads ways.new) (W.node ways.old) (W.node ways.new) (W.lost ways.old) (W.lost ways.new) (W.unread ways.old) (W.unread ways.new) }
         ensures good { W.good ways.new }
         ensures tied { OnOk result (IsTied self.new) }
-        ensures read { OnOk result (HasRead (λ ids. W.follows ways.old ids ways.new) self.old.nodes.items self.new.nodes.items) }
-        ensures once { OnErr result (ReadsOnce (λ ids. W.stops ways.old ids ways.new) self.old.nodes.items) }
+        ensures read { OnOk result (HasRead (λ ws ids. W.follows ways.old ws ids ways.new) (at [] self.old) (at [] self.new)) }
+        ensures once { OnErr result (ReadsFor (W.leads ways.old) (λ ids. W.stops ways.old (wish.now ∷ []) ids ways.new) self.old.nodes.items wish.now) }
         ensures broke { IfErr result (OnWays (W.broke ways.old ways.new)) }
     {
         match ways.follow(alloc, wish) {
@@ -70,8 +70,8 @@ impl Queue {
         ensures kept { Keeps (W.leads ways.old) (W.leads ways.new) (W.node ways.old) (W.node ways.new) (W.lost ways.old) (W.lost ways.new) (W.unread ways.old) (W.unread ways.new) }
         ensures good { W.good ways.new }
         ensures tied { OnOk result (IsTied self.new) }
-        ensures read { OnOk result (HasRead (λ ids. W.follows ways.old ids ways.new) self.old.nodes.items self.new.nodes.items) }
-        ensures once { OnErr result (ReadsOnce (λ ids. W.stops ways.old ids ways.new) self.old.nodes.items) }
+        ensures read { OnOk result (HasRead (λ ws ids. W.follows ways.old ws ids ways.new) (at [] self.old) (at [] self.new)) }
+        ensures once { OnErr result ((rest : List Turn) → ReadsOnce (W.leads ways.old) (W.node ways.old) (λ ws ids. W.stops ways.old ws ids ways.new) (at (map (turn_by who) wishes.now ++ rest) self.old)) }
         ensures broke { IfErr result (OnWays (W.broke ways.old ways.new)) }
     {
         for wish in wishes {
@@ -95,8 +95,8 @@ impl Queue {
         ensures kept { Keeps (W.leads ways.old) (W.leads ways.new) (W.node ways.old) (W.node ways.new) (W.lost ways.old) (W.lost ways.new) (W.unread ways.old) (W.unread ways.new) }
         ensures good { W.good ways.new }
         ensures tied { OnOk result (IsTied self.new) }
-        ensures read { OnOk result (HasRead (λ ids. W.follows ways.old ids ways.new) self.old.nodes.items self.new.nodes.items) }
-        ensures once { OnErr result (ReadsOnce (λ ids. W.stops ways.old ids ways.new) self.old.nodes.items) }
+        ensures read { OnOk result (HasRead (λ ws ids. W.follows ways.old ws ids ways.new) (at [] self.old) (at [] self.new)) }
+        ensures once { OnErr result (ReadsOnce (W.leads ways.old) (W.node ways.old) (λ ws ids. W.stops ways.old ws ids ways.new) (at (turns_of 0 self.old.nodes.items) self.old)) }
         ensures broke { IfErr result (OnWays (W.broke ways.old ways.new)) }
     {
         for k in 0..PACKAGE_LIMIT {
@@ -137,8 +137,8 @@ impl Queue {
         ensures kept { Keeps (W.leads ways.old) (W.leads ways.new) (W.node ways.old) (W.node ways.new) (W.lost ways.old) (W.lost ways.new) (W.unread ways.old) (W.unread ways.new) }
         ensures good { W.good ways.new }
         ensures tied { OnOk result (IsTied self.new) }
-        ensures read { OnOk result (HasRead (λ ids. W.follows ways.old ids ways.new) self.old.nodes.items self.new.nodes.items) }
-        ensures once { OnErr result (ReadsOnce (λ ids. W.stops ways.old ids ways.new) self.old.nodes.items) }
+        ensures read { OnOk result (HasRead (λ ws ids. (ws ≡ wish.now ∷ []) × W.follows ways.old [] ids ways.new) (at [] self.old) (at [] self.new)) }
+        ensures once { OnErr result (ReadsFor (W.leads ways.old) (λ ids. W.stops ways.old [] ids ways.new) self.old.nodes.items wish.now) }
         ensures broke { IfErr result (OnWays (W.broke ways.old ways.new)) }
     {
         match self.meet(alloc, ways, from, wish, id) {
@@ -164,8 +164,8 @@ impl Queue {
         ensures kept { Keeps (W.leads ways.old) (W.leads ways.new) (W.node ways.old) (W.node ways.new) (W.lost ways.old) (W.lost ways.new) (W.unread ways.old) (W.unread ways.new) }
         ensures good { W.good ways.new }
         ensures tied { OnOk result (IsTied self.new) }
-        ensures read { OnOk result (HasRead (λ ids. W.follows ways.old ids ways.new) self.old.nodes.items self.new.nodes.items) }
-        ensures once { OnErr result (ReadsOnce (λ ids. W.stops ways.old ids ways.new) self.old.nodes.items) }
+        ensures read { OnOk result (HasRead (λ ws ids. W.follows ways.old [] ids ways.new) (at [] self.old) (at [] self.new)) }
+        ensures once { OnErr result (ReadsFor (W.leads ways.old) (λ ids. W.stops ways.old [] ids ways.new) self.old.nodes.items wish.now) }
         ensures broke { IfErr result (OnWays (W.broke ways.old ways.new)) }
     {
         if let Some(at) = self.place(id) {

@@ -79,21 +79,21 @@ impl Ways for Shelf {
 
     ghost unread = { λ s i f. Unit {0} };
 
-    ghost follows = { λ s ids t. Unit {0} };
+    ghost follows = { λ s ws ids t. Unit {0} };
 
-    ghost stops = { λ s ids t. Unit {0} };
+    ghost stops = { λ s ws ids t. Unit {0} };
 
     ghost broke = { λ s t f. Unit {0} };
 
     ghost rests = { λ s. tt };
 
-    ghost goes_on = { λ a b c is js h k. tt };
+    ghost goes_on = { λ a b c ws vs is js h k. tt };
 
-    ghost may_stop = { λ a b is h. tt };
+    ghost may_stop = { λ a b ws is h. tt };
 
-    ghost stops_later = { λ a b c is js h k. tt };
+    ghost stops_later = { λ a b c ws vs is js h k. tt };
 
-    ghost broke_later = { λ a b c is f h k. tt };
+    ghost broke_later = { λ a b c ws is f h k. tt };
 
     fn follow(&mut self, alloc: Global, wish: &Wish) -> Result<Option<Aim>, Lost> {
         if wish.specifier.as_str() == "?" {

@@ -16,7 +16,8 @@ use std::alloc::Global;
 use std::collections::BTreeMap;
 
 /// Takes the edges of the projects in order, and then those of the packages as they are met. The first edge that can't be
-/// taken is the refusal, by the asker's text, alias and specifier. The packages that are met are read, each once, and no others.
+/// taken is the refusal, by the asker's text, alias and specifier. The wishes of the edges that are taken are followed, and the
+/// packages that are met are read, each once, and no others; of the edge that is refused too.
 pub fn walked<W: Ways>(
     alloc: Global,
     ways: &mut W,
@@ -27,8 +28,8 @@ pub fn walked<W: Ways>(
     ensures walked { IfOk result (λ q. IsWalked (W.leads ways.old) (W.node ways.old) (start (turns_from 0 (asked_of projects.now))) (at [] q)) }
     ensures tied { IfOk result IsTied }
     ensures refused { IfErr result (Stops (W.leads ways.old) (W.node ways.old) (W.lost ways.old) (W.unread ways.old) (folders_of projects.now) (start (turns_from 0 (asked_of projects.now)))) }
-    ensures read { IfOk result (λ q. HasRead (λ ids. W.follows ways.old ids ways.new) [] q.nodes.items) }
-    ensures once { OnErr result (ReadsOnce (λ ids. W.stops ways.old ids ways.new) []) }
+    ensures read { IfOk result (λ q. HasRead (λ ws ids. W.follows ways.old ws ids ways.new) (start []) (at [] q)) }
+    ensures once { OnErr result (ReadsOnce (W.leads ways.old) (W.node ways.old) (λ ws ids. W.stops ways.old ws ids ways.new) (start (turns_from 0 (asked_of projects.now)))) }
     ensures good { W.good ways.new }
     ensures broke { IfErr result (OnWays (W.broke ways.old ways.new)) }
 {
@@ -69,8 +70,8 @@ fn take_projects<W: Ways>(
     ensures good { W.good ways.new }
     ensures tied { OnOk result (IsTied queue.new) }
     ensures kept { Keeps (W.leads ways.old) (W.leads ways.new) (W.node ways.old) (W.node ways.new) (W.lost ways.old) (W.lost ways.new) (W.unread ways.old) (W.unread ways.new) }
-    ensures read { OnOk result (HasRead (λ ids. W.follows ways.old ids ways.new) queue.old.nodes.items queue.new.nodes.items) }
-    ensures once { OnErr result (ReadsOnce (λ ids. W.stops ways.old ids ways.new) queue.old.nodes.items) }
+    ensures read { OnOk result (HasRead (λ ws ids. W.follows ways.old ws ids ways.new) (at [] queue.old) (at [] queue.new)) }
+    ensures once { OnErr result (ReadsOnce (W.leads ways.old) (W.node ways.old) (λ ws ids. W.stops ways.old ws ids ways.new) (at (turns_from 0 (asked_of projects.now)) queue.old)) }
     ensures broke { IfErr result (OnWays (W.broke ways.old ways.new)) }
 {
     for q in 0..projects.len() {

@@ -28,11 +28,11 @@ pub trait Ways {
     /// Why an id isn't that of a package.
     ghost unread: { Self → TheId → Self.Fault → Type 0 };
 
-    /// How calls that read these packages, in this order and no others, may leave the object.
-    ghost follows: { Self → List TheId → Self → Type 0 };
+    /// How calls that follow these wishes and read these packages, each list in its order and no others, may leave the object.
+    ghost follows: { Self → List TheWish → List TheId → Self → Type 0 };
 
     /// The same, where the last call may have been refused.
-    ghost stops: { Self → List TheId → Self → Type 0 };
+    ghost stops: { Self → List TheWish → List TheId → Self → Type 0 };
 
     /// What a refusal says of the calls before it, as that a count rose.
     ghost broke: { Self → Self → Self.Fault → Type 0 };
@@ -44,8 +44,8 @@ pub trait Ways {
         ensures lost { IfErr result (lost self.old wish.now) }
         ensures kept { Keeps (leads self.old) (leads self.new) (node self.old) (node self.new) (lost self.old) (lost self.new) (unread self.old) (unread self.new) }
         ensures good { good self.new }
-        ensures follows { OnOk result (follows self.old [] self.new) }
-        ensures stops { OnErr result (stops self.old [] self.new) }
+        ensures follows { OnOk result (follows self.old (wish.now ∷ []) [] self.new) }
+        ensures stops { OnErr result (stops self.old (wish.now ∷ []) [] self.new) }
         ensures broke { IfErr result (broke self.old self.new) };
 
     /// The package of an id.
@@ -56,17 +56,17 @@ pub trait Ways {
         ensures unread { IfErr result (unread self.old id.now) }
         ensures kept { Keeps (leads self.old) (leads self.new) (node self.old) (node self.new) (lost self.old) (lost self.new) (unread self.old) (unread self.new) }
         ensures good { good self.new }
-        ensures follows { OnOk result (follows self.old (id.now ∷ []) self.new) }
-        ensures stops { OnErr result (stops self.old (id.now ∷ []) self.new) }
+        ensures follows { OnOk result (follows self.old [] (id.now ∷ []) self.new) }
+        ensures stops { OnErr result (stops self.old [] (id.now ∷ []) self.new) }
         ensures broke { IfErr result (broke self.old self.new) };
 
-    ghost rests: { (a : Self) → follows a [] a };
+    ghost rests: { (a : Self) → follows a [] [] a };
 
-    ghost goes_on: { (a b c : Self) (is js : List TheId) → follows a is b → follows b js c → follows a (is ++ js) c };
+    ghost goes_on: { (a b c : Self) (ws vs : List TheWish) (is js : List TheId) → follows a ws is b → follows b vs js c → follows a (ws ++ vs) (is ++ js) c };
 
-    ghost may_stop: { (a b : Self) (is : List TheId) → follows a is b → stops a is b };
+    ghost may_stop: { (a b : Self) (ws : List TheWish) (is : List TheId) → follows a ws is b → stops a ws is b };
 
-    ghost stops_later: { (a b c : Self) (is js : List TheId) → follows a is b → stops b js c → stops a (is ++ js) c };
+    ghost stops_later: { (a b c : Self) (ws vs : List TheWish) (is js : List TheId) → follows a ws is b → stops b vs js c → stops a (ws ++ vs) (is ++ js) c };
 
-    ghost broke_later: { (a b c : Self) (is : List TheId) (f : Self.Fault) → follows a is b → broke b c f → broke a c f };
+    ghost broke_later: { (a b c : Self) (ws : List TheWish) (is : List TheId) (f : Self.Fault) → follows a ws is b → broke b c f → broke a c f };
 }

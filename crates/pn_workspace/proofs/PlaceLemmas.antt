@@ -6,8 +6,8 @@ use Rattle.std.proofs.lemmas.List.Folds.{list_any_at}
 use Rattle.pn_text.specs.Path.{Path, same_path}
 use Rattle.pn_text.proofs.Bools.{and_false, both_false, left_false, right_false, true_false}
 use Rattle.pn_text.proofs.Paths.{deeper, same_path-Decides, same_path_refl}
-use Rattle.pn_plan.specs.Drawing.{is_within}
-use Rattle.pn_plan.proofs.WithinLemmas.{is_within_at, within_from}
+use Rattle.pn_draft.specs.Drawing.{is_within}
+use Rattle.pn_draft.proofs.WithinLemmas.{is_within_at, within_from}
 use Rattle.pn_workspace.specs.Laws.{PlaceLaw}
 use Rattle.pn_workspace.specs.Stores.{IsPlaced, default_store, is_in_way, is_misplaced, is_named, modules_name, store_of}
 use Rattle.pn_workspace.specs.declared.search.Workspace.{Workspace}

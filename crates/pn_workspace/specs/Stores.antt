@@ -4,7 +4,7 @@ use Rattle.std.specs.List.{list_any}
 use Rattle.std.specs.Str.{bytes_eq}
 use Rattle.pn_text.specs.declared.limits.TheConstants.{PATH_LIMIT}
 use Rattle.pn_text.specs.Path.{Path, same_path, path_text}
-use Rattle.pn_plan.specs.Drawing.{is_within}
+use Rattle.pn_draft.specs.Drawing.{is_within}
 use Rattle.pn_config.specs.Folders.{resolved}
 use Rattle.pn_workspace.specs.declared.fault.StoreFault.{StoreFault}
 use Rattle.pn_workspace.specs.declared.fault.StoreFault.TheVariants as fault

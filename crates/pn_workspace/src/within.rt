@@ -1,7 +1,7 @@
 // Where paths lie.
 ghost use Rattle.std.specs.Prelude.{◌≡◌, ◌∷◌, IfOk, IsTrue, codes};
 ghost use Rattle.pn_text.specs.Path.{same_path};
-ghost use Rattle.pn_plan.specs.Drawing.{is_within};
+ghost use Rattle.pn_draft.specs.Drawing.{is_within};
 ghost use Rattle.pn_workspace.specs.Stores.{default_store, is_named};
 
 use pn_text::{AbsPath, Memory};

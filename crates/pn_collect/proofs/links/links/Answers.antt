@@ -1,6 +1,6 @@
 use Rattle.std.proofs.Common.{length, map, sym, ◌∙◌, subst}
-use Rattle.pn_layout.specs.Links.{IsRising}
-use Rattle.pn_layout.specs.Listed.{pair_of}
+use Rattle.pn_package.specs.Links.{IsRising}
+use Rattle.pn_package.specs.Listed.{pair_of}
 use Rattle.pn_collect.proofs.LinkLemmas.{dep_ranged, deps_rise, links_rise, links_more, sound_more, all_taken}
 use Rattle.pn_collect.proofs.links.links.Goals as goal
 

@@ -1,7 +1,7 @@
 use Rattle.std.proofs.Common.{◌≡◌, map, take}
 use Rattle.std.specs.List.{All}
-use Rattle.pn_layout.specs.Listed.{pair_of}
-use Rattle.pn_layout.specs.Sound.{IsSoundPair}
+use Rattle.pn_package.specs.Listed.{pair_of}
+use Rattle.pn_package.specs.Sound.{IsSoundPair}
 use Rattle.pn_collect.specs.Outline.{links_of}
 use Rattle.pn_collect.proofs.links.links.Given as goal
 

@@ -3,7 +3,7 @@ use Rattle.std.proofs.lemmas.Result.{err_from_is_err_and}
 use Rattle.std.specs.List.{All}
 use Rattle.std.specs.Cmp.Lexicographic.{slice_cmp}
 use Rattle.pn_text.specs.First.{FirstFails}
-use Rattle.pn_layout.specs.Sound.{AreSoundLinks}
+use Rattle.pn_package.specs.Sound.{AreSoundLinks}
 use Rattle.pn_collect.specs.CollectFaults.{IsFirstRefused, NoFiles}
 use Rattle.pn_collect.specs.Outline.{bare_of, bare_id, HasPassed, IsSoundBare}
 use Rattle.pn_collect.specs.Packages.{HasPlace}

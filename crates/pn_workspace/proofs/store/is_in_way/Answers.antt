@@ -1,6 +1,6 @@
 use Rattle.std.proofs.Common.{◌≡◌, ◌∷◌, sym, ap, ◌∙◌, true, false}
 use Rattle.std.specs.Prelude.{not, ◌&&◌, ◌||◌}
-use Rattle.pn_plan.specs.Drawing.{is_within}
+use Rattle.pn_draft.specs.Drawing.{is_within}
 use Rattle.pn_workspace.specs.Stores.{modules_name}
 use Rattle.pn_workspace.proofs.store.is_in_way.Goals as goal
 

@@ -1,6 +1,6 @@
 use Rattle.std.proofs.Common.{◌≡◌, ◌∷◌, sym, ◌∙◌, codes, false}
 use Rattle.pn_text.proofs.Results.{if_ok}
-use Rattle.pn_plan.specs.Drawing.{is_within}
+use Rattle.pn_draft.specs.Drawing.{is_within}
 use Rattle.pn_workspace.specs.Stores.{is_named, modules_name}
 use Rattle.pn_workspace.proofs.PlaceLemmas.{last_of_five}
 use Rattle.pn_workspace.proofs.store.is_misplaced.Goals as goal

@@ -1,5 +1,5 @@
 use Rattle.std.proofs.Common.{◌≡◌, ◌∷◌, length}
-use Rattle.pn_plan.specs.Drawing.{is_within}
+use Rattle.pn_draft.specs.Drawing.{is_within}
 use Rattle.pn_workspace.proofs.within.is_within_entry.Given as goal
 
 abbrev pub invariant-folders : goal.invariant-folders

@@ -27,7 +27,7 @@ returns-clause-once g c =
     (ap (λ (n : List ℕ). is_some (get_by_text shelves n)) (sym c.as_str.ensures.text) ∙ sym c.contains_key.ensures ∙ c.if-contains_key.false)
 
 pub returns-then-contains_key-clause-learns : goal.returns-then-contains_key-clause-learns
-returns-then-contains_key-clause-learns g c = learns_nothing (knows c.args.self.now.shelves.now) (g.R.ReadFs.seen c.args.self.now.registry.now)
+returns-then-contains_key-clause-learns g c = learns_nothing (λ n. n ≡ c.args.name.now) (knows c.args.self.now.shelves.now) (g.R.ReadFs.seen c.args.self.now.registry.now)
 
 pub returns-in_err-list-clause-reads : goal.returns-in_err-list-clause-reads
 returns-in_err-list-clause-reads g c =

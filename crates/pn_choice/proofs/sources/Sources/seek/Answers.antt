@@ -1,4 +1,9 @@
-use Rattle.std.proofs.Common.{rules}
+use Rattle.std.proofs.Common.{rules, [], ◌∷◌}
+use Rattle.std.specs.List.{Contains}
+use Rattle.pn_text.proofs.Results.{any_err}
+use Rattle.pn_choice.specs.Calls.{knows, IsSought}
+use Rattle.pn_choice.specs.Goes.{learns_nothing}
+use Rattle.pn_choice.proofs.CallsLemmas.{learns_sought, reads_sought}
 use Rattle.pn_choice.specs.Ways.{Loses}
 use Rattle.pn_choice.proofs.SeekLemmas.{unasked_loses, unlisted_loses, leads_to, leads_nowhere, lost_version, asks_once}
 use Rattle.pn_choice.proofs.sources.Sources.seek.Goals as goal
@@ -49,3 +54,20 @@ pub returns-in-None-clause-leads : goal.returns-in-None-clause-leads
 returns-in-None-clause-leads g c =
     leads_nowhere (g.R.ReadFs.seen c.args.self.now.registry.now).tree c.args.self.now.held.now c.args.wish.now c.in_ok-asked.asked.name c.in_ok-asked.asked.want c.in_ok-id.field-0 c.requires.asks c.in_ok-asked.ensures.reads
     c.in_ok-id.ensures.version c.in-None.is c.if-wish.true
+
+pub returns-in_err-asked-clause-reads : goal.returns-in_err-asked-clause-reads
+returns-in_err-asked-clause-reads g c =
+    let a = g.R.ReadFs.seen c.args.self.now.registry.now in
+    any_err c.from_residual.result ((learns_nothing (IsSought (Contains (c.args.wish.now ∷ []))) (knows c.args.self.now.shelves.now) a).reads)
+
+pub returns-in_err-id-clause-reads : goal.returns-in_err-id-clause-reads
+returns-in_err-id-clause-reads g c = any_err c.from_residual-in_err-id.result (reads_sought (knows c.args.self.now.shelves.now) (knows c.version.new.self.shelves.now) c.args.wish.now c.in_ok-asked.asked.name c.in_ok-asked.asked.want (g.R.ReadFs.seen c.args.self.now.registry.now) (g.R.ReadFs.seen c.version.new.self.registry.now) c.requires.asks c.in_ok-asked.ensures.reads c.in_err-id.ensures.reads)
+
+pub returns-in-Some-clause-learns : goal.returns-in-Some-clause-learns
+returns-in-Some-clause-learns g c = learns_sought (knows c.args.self.now.shelves.now) (knows c.version.new.self.shelves.now) c.args.wish.now c.in_ok-asked.asked.name c.in_ok-asked.asked.want (g.R.ReadFs.seen c.args.self.now.registry.now) (g.R.ReadFs.seen c.version.new.self.registry.now) c.requires.asks c.in_ok-asked.ensures.reads c.in_ok-id.ensures.learns
+
+pub returns-in-None-clause-learns : goal.returns-in-None-clause-learns
+returns-in-None-clause-learns g c = learns_sought (knows c.args.self.now.shelves.now) (knows c.version.new.self.shelves.now) c.args.wish.now c.in_ok-asked.asked.name c.in_ok-asked.asked.want (g.R.ReadFs.seen c.args.self.now.registry.now) (g.R.ReadFs.seen c.version.new.self.registry.now) c.requires.asks c.in_ok-asked.ensures.reads c.in_ok-id.ensures.learns
+
+pub returns-in-None-2-clause-reads : goal.returns-in-None-2-clause-reads
+returns-in-None-2-clause-reads g c = (learns_sought (knows c.args.self.now.shelves.now) (knows c.version.new.self.shelves.now) c.args.wish.now c.in_ok-asked.asked.name c.in_ok-asked.asked.want (g.R.ReadFs.seen c.args.self.now.registry.now) (g.R.ReadFs.seen c.version.new.self.registry.now) c.requires.asks c.in_ok-asked.ensures.reads c.in_ok-id.ensures.learns).reads

@@ -1,7 +1,7 @@
-use Rattle.std.proofs.Common.{map, take}
+use Rattle.std.proofs.Common.{map, take, []}
 use Rattle.pn_walk.specs.Keeps.{Keeps}
 use Rattle.pn_walk.specs.Walks.{turn_by}
-use Rattle.pn_walk.specs.Calls.{TookAll}
+use Rattle.pn_walk.specs.Calls.{at, TookAll}
 use Rattle.pn_walk.specs.Places.{IsTied}
 use Rattle.pn_walk.specs.Reads.{HasRead}
 use Rattle.pn_walk.proofs.state.Queue.take_all.Given as goal
@@ -12,5 +12,5 @@ invariant-loop-wish g l = record {
   kept : Keeps (g.W.Ways.leads l.fn.ways) (g.W.Ways.leads l.ways) (g.W.Ways.node l.fn.ways) (g.W.Ways.node l.ways) (g.W.Ways.lost l.fn.ways) (g.W.Ways.lost l.ways) (g.W.Ways.unread l.fn.ways) (g.W.Ways.unread l.ways);
   good : g.W.Ways.good l.ways;
   tied : IsTied l.self;
-  read : HasRead (λ ids. g.W.Ways.follows l.fn.ways ids l.ways) l.fn.self.nodes.items l.self.nodes.items;
+  read : HasRead (λ ws ids. g.W.Ways.follows l.fn.ways ws ids l.ways) (at [] l.fn.self) (at [] l.self);
 }

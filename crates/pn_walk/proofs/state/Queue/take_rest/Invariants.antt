@@ -1,4 +1,4 @@
-use Rattle.std.proofs.Common.{◌≤◌, length, drop}
+use Rattle.std.proofs.Common.{◌≤◌, length, drop, []}
 use Rattle.pn_walk.specs.Keeps.{Keeps}
 use Rattle.pn_walk.specs.Walks.{State, Walk, turns_of}
 use Rattle.pn_walk.specs.Calls.{at}
@@ -13,5 +13,5 @@ invariant-loop-k g l = record {
   kept : Keeps (g.W.Ways.leads l.fn.ways) (g.W.Ways.leads l.ways) (g.W.Ways.node l.fn.ways) (g.W.Ways.node l.ways) (g.W.Ways.lost l.fn.ways) (g.W.Ways.lost l.ways) (g.W.Ways.unread l.fn.ways) (g.W.Ways.unread l.ways);
   good : g.W.Ways.good l.ways;
   tied : IsTied l.self;
-  read : HasRead (λ ids. g.W.Ways.follows l.fn.ways ids l.ways) l.fn.self.nodes.items l.self.nodes.items;
+  read : HasRead (λ ws ids. g.W.Ways.follows l.fn.ways ws ids l.ways) (at [] l.fn.self) (at [] l.self);
 }
