@@ -1,0 +1,11 @@
+pub mod Names
+pub mod Targets
+pub mod Importers
+pub mod Packages
+pub mod PassedOn
+pub mod Snapshots
+pub mod Entries
+pub mod Made
+pub mod Singles
+pub mod Rows
+pub mod WorkspaceRow

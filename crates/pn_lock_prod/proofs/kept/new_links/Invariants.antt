@@ -1,0 +1,6 @@
+use Rattle.std.proofs.Common.{◌≡◌, map, take}
+use Rattle.pn_lock_prod.specs.Kept.{new_link}
+use Rattle.pn_lock_prod.proofs.kept.new_links.Given as goal
+
+abbrev pub invariant-loop-old : goal.invariant-loop-old
+invariant-loop-old l = l.all ≡ map (new_link l.numbers) (take l.old-index l.these)

@@ -1,0 +1,14 @@
+mod AllLemmas
+mod BackLemmas
+mod CatalogLemmas
+mod DraftOf
+mod KeyTextLemmas
+mod LockBackLemmas
+mod LockKeptLemmas
+mod PathTextLemmas
+mod QuoteLemmas
+mod ReadLawLemmas
+mod RowLemmas
+mod SettleLemmas
+mod TargetLemmas
+mod WayLemmas
