@@ -102,6 +102,10 @@ differs_gone plan (Some t) now new es i left e at h is told d u some =
         sym (list_any-append (λ (x : Found). same_path x.0 q && is_doomed plan x) (take i es) (e ∷ drop (i + 1) es)) ∙ ap (λ l. is_gone plan l q) (sym (split_at es i e h is)) ∙ out in
         neither (same_path e.0 q && is_doomed plan e) (is_gone plan (drop (i + 1) es) q) (neither (is_gone plan (take i es) q) (is_gone plan (e ∷ drop (i + 1) es) q) whole).1
 
+-- a told tree is told without them
+pub without_told : (plan : List Item) (es : List Found) (old now : Option Tree) → now ≡ option_map (without plan es) old → ForSome old (λ t. (u : Tree) × (now ≡ Some u))
+without_told plan es old now is t told = (without plan es t, is ∙ ap (λ o. option_map (without plan es) o) told)
+
 -- paths that are written
 pub touched_none : (Why : Path → Type 0) (a : Seen) → Touched Why a a
 touched_none Why a = record { added = []; touched = sym (append-nil a.touched); why = λ p h. absurd (omega (arith, h.1)) }

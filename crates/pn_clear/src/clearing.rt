@@ -3,6 +3,7 @@ ghost use Rattle.std.specs.Prelude.{◌≡◌, ◌≤◌, ◌∷◌, [], true, O
 ghost use Rattle.std.specs.Option.{ForSome, option_map};
 ghost use Rattle.pn_text.specs.Path.{same_path};
 ghost use Rattle.pn_fs.specs.Tree.{CanRemove};
+ghost use Rattle.pn_fs.specs.Seen.{GaveNothing};
 ghost use Rattle.pn_fs.specs.Calls.{told_gone};
 ghost use Rattle.pn_fs.specs.Made.{DiffersOnly};
 ghost use Rattle.pn_repair.specs.RepairFaults.{TreeRefused};
@@ -15,8 +16,8 @@ use pn_fs::{Fs, Kind, ReadFs};
 use pn_repair::{RepairFault, is_fitting};
 use pn_text::{AbsPath, DevFault};
 
-/// Takes the entries away that aren't planned, or of another kind than planned, the last one first. After a refusal some
-/// of them may be gone.
+/// Takes the entries away that aren't planned, or of another kind than planned, the last one first. Nothing is read
+/// of them. After a refusal some of them may be gone.
 pub fn clear<P: Fs>(
     fs: &mut P,
     plan: &[(AbsPath, Planned)],
@@ -28,6 +29,7 @@ pub fn clear<P: Fs>(
     ensures ok { OnOk result ((P.seen fs.new).tree ≡ option_map (without plan.now entries.now) (P.seen fs.old).tree) }
     ensures err { OnErr result (DiffersOnly (is_gone plan.now entries.now) (P.seen fs.old).tree (P.seen fs.new).tree) }
     ensures touched { IfSome (P.seen fs.old).tree (λ t. Touched (λ p. is_gone plan.now entries.now p ≡ true) (P.seen fs.old) (P.seen fs.new)) }
+    ensures gave { IfSome (P.seen fs.old).tree (λ t. GaveNothing (P.seen fs.old) (P.seen fs.new)) }
     ensures later { (P.seen fs.old).faults ≤ (P.seen fs.new).faults }
     ensures fault { IfErr result (TreeRefused (P.seen fs.old).faults (P.seen fs.new).faults) }
 {
@@ -49,6 +51,7 @@ fn clear_one<P: Fs>(
     ensures ok { OnOk result ((P.seen fs.new).tree ≡ option_map (without plan.now (entry.now ∷ [])) (P.seen fs.old).tree) }
     ensures err { OnErr result (DiffersOnly (is_gone plan.now (entry.now ∷ [])) (P.seen fs.old).tree (P.seen fs.new).tree) }
     ensures touched { IfSome (P.seen fs.old).tree (λ t. Touched (λ p. is_gone plan.now (entry.now ∷ []) p ≡ true) (P.seen fs.old) (P.seen fs.new)) }
+    ensures gave { IfSome (P.seen fs.old).tree (λ t. GaveNothing (P.seen fs.old) (P.seen fs.new)) }
     ensures later { (P.seen fs.old).faults ≤ (P.seen fs.new).faults }
     ensures fault { IfErr result (TreeRefused (P.seen fs.old).faults (P.seen fs.new).faults) }
 {
@@ -74,6 +77,7 @@ fn remove<P: Fs>(fs: &mut P, path: &AbsPath) -> Result<(), RepairFault>
     ensures ok { OnOk result ((P.seen fs.new).tree ≡ told_gone (P.seen fs.old).tree path.now) }
     ensures err { OnErr result (DiffersOnly (same_path path.now) (P.seen fs.old).tree (P.seen fs.new).tree) }
     ensures touched { IfSome (P.seen fs.old).tree (λ t. Touched (λ p. p ≡ path.now) (P.seen fs.old) (P.seen fs.new)) }
+    ensures gave { IfSome (P.seen fs.old).tree (λ t. GaveNothing (P.seen fs.old) (P.seen fs.new)) }
     ensures later { (P.seen fs.old).faults ≤ (P.seen fs.new).faults }
     ensures fault { IfErr result (TreeRefused (P.seen fs.old).faults (P.seen fs.new).faults) }
 {

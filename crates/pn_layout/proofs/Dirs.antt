@@ -12,7 +12,8 @@ use Rattle.pn_text.specs.Ids.{id_name, id_version, id_text, is_id, is_version}
 use Rattle.pn_text.proofs.Bools.{and_left, and_right, not_true, or_true}
 use Rattle.pn_text.proofs.IdTexts.{id_law, id_part}
 use Rattle.pn_text.proofs.NameTexts.{name_of}
-use Rattle.pn_layout.specs.Links.{Id}
+use Rattle.pn_node.specs.Plan.{marker_name}
+use Rattle.pn_package.specs.Links.{Id}
 use Rattle.pn_layout.specs.Store.{plus_for_slash, dir_name}
 use Rattle.pn_layout.proofs.Bytes.{Lacks, lacks_not, name_lacks}
 use Rattle.pn_layout.proofs.Slashes.{flat_same}
@@ -75,11 +76,14 @@ one_dir d e s t h =
       version_id id h = and_right (is_name (id_name id)) (is_version (id_version id)) h
 
 -- it has an `@`
+dir_at : (id : Id) → is_id id ≡ true → list_any (λ b. b == 64) (dir_name id) ≡ true
+dir_at id h = ap (list_any (λ b. b == 64)) (dir_is id h) ∙ list_any-append (λ b. b == 64) (map plus_for_slash (id_name id)) (64 ∷ id_version id) ∙ or_true (list_any (λ b. b == 64) (map plus_for_slash (id_name id)))
+
 pub dir_no_modules : (id : Id) → is_id id ≡ true → dir_name id ≢ modules
-dir_no_modules id h e =
-    let has : list_any (λ b. b == 64) (dir_name id) ≡ true =
-    ap (list_any (λ b. b == 64)) (dir_is id h) ∙ list_any-append (λ b. b == 64) (map plus_for_slash (id_name id)) (64 ∷ id_version id) ∙ or_true (list_any (λ b. b == 64) (map plus_for_slash (id_name id))) in
-    let no : true ≡ false = sym has ∙ ap (list_any (λ b. b == 64)) e in cc
+dir_no_modules id h e = let no : true ≡ false = sym (dir_at id h) ∙ ap (list_any (λ b. b == 64)) e in cc
+
+pub dir_no_marker : (id : Id) → is_id id ≡ true → dir_name id ≢ marker_name
+dir_no_marker id h e = let no : true ≡ false = sym (dir_at id h) ∙ ap (list_any (λ b. b == 64)) e in cc
 
 byte_flat : (b : ℕ) → (plus_for_slash b == 47) ≡ false
 byte_flat b = elim (b == 47) as (λ c. (b == 47) ≡ c → ((if c then 43 else b) == 47) ≡ false) [ true ↦ λ is. refl | false ↦ λ is. is ] refl

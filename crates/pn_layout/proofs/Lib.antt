@@ -1,16 +1,15 @@
-pub mod Contents
-pub mod Bytes
-pub mod Versions
-pub mod Slashes
-pub mod Dirs
-pub mod OwnTexts
-pub mod Ways
-pub mod Plans
-pub mod Findings
-pub mod Builds
-pub mod Drawings
-pub mod Once
-pub mod Leafs
-pub mod Entries
-pub mod Outcomes
-pub mod RefusedLemmas
+mod Bytes
+mod Slashes
+mod Versions
+mod Dirs
+pub mod RisingLemmas
+mod SoundLemmas
+pub mod AlikeLemmas
+mod NearLemmas
+mod PathLemmas
+pub mod FindingLemmas
+pub mod CauseLemmas
+mod OuterLemmas
+mod HomeLemmas
+mod ZipLemmas
+mod RowLemmas

@@ -1,9 +1,6 @@
-pub mod Links
-pub mod Listed
 pub mod Store
-pub mod Sound
+pub mod Listed
 pub mod Layout
-pub mod Leaves
 pub mod Laws
-pub mod Drawn
-pub mod Refusals
+pub mod Near
+pub mod Places

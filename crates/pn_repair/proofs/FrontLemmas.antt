@@ -1,9 +1,10 @@
 -- Lemmas on a file that is read in pieces.
-use Rattle.std.proofs.Common.{◌≡◌, ◌≢◌, ℕ, ◌+◌, ◌<◌, ◌≤◌, List, [], ◌++◌, length, take, drop, refl, sym, ap, ◌∙◌, subst, arith, Bool, true, false, Some}
-use Rattle.std.specs.Prelude.{Option, IfSome, min}
+use Rattle.std.proofs.Common.{◌≡◌, ◌≢◌, ℕ, ◌+◌, ◌<◌, ◌≤◌, ◌==◌, List, [], ◌++◌, length, take, drop, refl, sym, ap, ◌∙◌, subst, arith, Bool, true, false, Some}
+use Rattle.std.specs.Prelude.{Option, IfSome, if◌then◌else◌, nat_le}
 use Rattle.std.specs.Bool.{MatchBool}
 use Rattle.std.specs.Option.{ForSome}
 use Rattle.std.proofs.lemmas.List.{take_all}
+use Rattle.std.proofs.lemmas.Bool.{eq-eqb, le-leb}
 use Rattle.std.proofs.Math.Seq.{take-add}
 use Rattle.sha2.specs.Sha512.{sha512}
 use Rattle.pn_text.specs.Path.{Path}
@@ -64,8 +65,11 @@ gave_still a b c at k same h i l = if_some (λ t. GaveAtMost a k 0 c) a.tree (λ
     let s = for_some (λ t. GaveNothing b c) b.tree i t (same ∙ told) in
     record { bytes = omega (arith, g.bytes, s.bytes, l t told); names = omega (arith, g.names, s.names) })
 
-pub at_most : (s : Option Tree) (x k : ℕ) (m : ℕ) → ForSome s (λ t. x ≤ k) → k ≤ m → ForSome s (λ t. x ≤ min k m)
-at_most s x k m h le t told = omega (arith, h t told, le)
+pub at_same : (s : Option Tree) (x n m : ℕ) → ForSome s (λ t. x ≤ n) → n ≡ m → ForSome s (λ t. x ≤ (if n == m then n else 0))
+at_same s x n m h is t told = subst (λ (b : Bool). x ≤ (if b then n else 0)) (sym (eq-eqb n m is)) (h t told)
+
+pub at_small : (s : Option Tree) (x n m : ℕ) → ForSome s (λ t. x ≤ n) → n ≤ m → ForSome s (λ t. x ≤ (if nat_le n m then n else 0))
+at_small s x n m h le t told = subst (λ (b : Bool). x ≤ (if b then n else 0)) (sym (le-leb n m le)) (h t told)
 
 -- a file of another length is another file
 pub other_size : (s : Option Tree) (p : Path) (size : ℕ) (text : List ℕ) → ForSome s (λ t. kind_of (t p) ≡ File size) → size ≢ length text → IfSome s (λ t. t p ≡ Some (file text) → ⊥)

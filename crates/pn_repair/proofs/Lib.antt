@@ -4,3 +4,5 @@ pub mod FitsLemmas
 pub mod FrontLemmas
 pub mod ReadsStoreLemmas
 pub mod RepairedLemmas
+pub mod NeedsLemmas
+pub mod GaveLemmas

@@ -5,6 +5,7 @@ use Rattle.pn_text.specs.Causes.{Rose}
 use Rattle.pn_text.specs.declared.fault.DevFault.{DevFault}
 use Rattle.pn_text.specs.declared.fault.DevFault.TheVariants.{Failed, Memory as no_memory}
 use Rattle.pn_text.specs.declared.limits.TheConstants.{FILE_LIMIT}
+use Rattle.pn_fs.specs.Tree.{Entry}
 use Rattle.pn_fs.specs.Seen.{Seen as Shown}
 use Rattle.pn_digest.specs.declared.planned.Planned.{Planned}
 use Rattle.pn_digest.specs.declared.planned.Planned.TheVariants as planned
@@ -14,6 +15,7 @@ use Rattle.pn_storecore.specs.Grew.{Was}
 use Rattle.pn_store.specs.Reads.{StoodThere}
 use Rattle.pn_store.specs.declared.fault.ReadFault.{ReadFault}
 use Rattle.pn_store.specs.declared.fault.ReadFault.TheVariants as read
+use Rattle.pn_repair.specs.Stands.{StandsAs}
 use Rattle.pn_repair.specs.declared.fault.RepairFault.{RepairFault}
 use Rattle.pn_repair.specs.declared.fault.RepairFault.TheVariants.{Fault, StoreFault, Stored, Memory}
 
@@ -36,10 +38,17 @@ RepairRefused was now old new StoreFault = Rose old.faults new.faults
 RepairRefused was now old new (Stored at found) = IsWrongFile at found old new
 RepairRefused was now old new Memory = Unit {0}
 
--- a wrong file of the store is the one that is planned
+-- what failed in the store, or was wrong there, is the file that is planned
 abbrev pub IsOfPlan : Planned → RepairFault → Type 0
+IsOfPlan w StoreFault = (at : List ℕ) × (w ≡ planned.Stored at)
 IsOfPlan w (Stored at found) = w ≡ planned.Stored at
 IsOfPlan w e = Unit {0}
+
+-- the store was asked where the entry didn't stand
+abbrev pub IsNeeded : Planned → Option Entry → RepairFault → Type 0
+IsNeeded w was StoreFault = StandsAs w was → ⊥
+IsNeeded w was (Stored at found) = StandsAs w was → ⊥
+IsNeeded w was e = Unit {0}
 
 -- the answer of a call of the tree, in these words
 abbrev pub tree_answer : {T : Type 0} → Result T DevFault → Result T RepairFault

@@ -1,5 +1,5 @@
 -- What the repair of one planned entry leaves.
-use Rattle.std.specs.Prelude.{◌≡◌, ◌⊎◌, ◌++◌, ℕ, min, Bool, true, false, List, [], length, take, Option, Some, None, IfSome}
+use Rattle.std.specs.Prelude.{◌≡◌, ◌⊎◌, ◌++◌, ◌==◌, if◌then◌else◌, nat_le, ℕ, Bool, true, false, List, [], length, take, Option, Some, None, IfSome}
 use Rattle.std.specs.List.{Contains}
 use Rattle.std.specs.Option.{ForSome, MatchOption}
 use Rattle.pn_text.specs.Path.{Path, same_path}
@@ -52,8 +52,8 @@ pub record TouchesWrong (e : Path × Planned) (t : Tree) (old new : Seen) : Type
 abbrev pub Touches : Path × Planned → Seen → Seen → Type 0
 Touches e old new = IfSome old.tree (λ t. TouchesWrong e t old new)
 
--- How many bytes are read of what stands: of a file that may be the planned one, at most all.
+-- How many bytes are read of what stands: at most all of a file whose length is right, and none of another one.
 abbrev pub most_read : Planned → Kind → ℕ
-most_read (Bytes text) (kind.File n) = min n (length text)
-most_read (Stored d) (kind.File n) = min n FILE_LIMIT
+most_read (Bytes text) (kind.File n) = if n == length text then n else 0
+most_read (Stored d) (kind.File n) = if nat_le n FILE_LIMIT then n else 0
 most_read w k = 0

@@ -9,9 +9,9 @@ ghost use Rattle.pn_fs.specs.Calls.{kind_of};
 ghost use Rattle.pn_storecore.specs.Grew.{Grew};
 ghost use Rattle.pn_store.specs.Leaves.{LeavesAll};
 ghost use Rattle.pn_repair.specs.Repairs.{fits, Repaired, HalfRepaired, IsHalf, Touches, most_read};
-ghost use Rattle.pn_repair.specs.Stands.{StandsAs};
+ghost use Rattle.pn_repair.specs.Stands.{StandsAs, NeedsNoFile};
 ghost use Rattle.pn_repair.specs.Writes.{WroteAt, HasAt, IsAt, ReadsStore};
-ghost use Rattle.pn_repair.specs.RepairFaults.{RepairRefused, TreeRefused, IsOfPlan};
+ghost use Rattle.pn_repair.specs.RepairFaults.{RepairRefused, TreeRefused, IsOfPlan, IsNeeded};
 
 use crate::calls::make_folder;
 use crate::fault::RepairFault;
@@ -25,8 +25,9 @@ use pn_text::AbsPath;
 
 /// Makes what is planned stand at a path where nothing or an entry of its kind stands: a folder where there is none, a
 /// file whose bytes are other ones anew, a link with another text anew. What stands as planned is read and left alone: a
-/// stored file is read once, in pieces, and hashed once. A stored file's bytes come from the store in pieces and are
-/// hashed on the way; the store isn't asked where the file stands. After a refusal the tree differs at that path at most.
+/// stored file is read once, in pieces, and hashed once. A file whose length shows that it is another one isn't read. A
+/// stored file's bytes come from the store in pieces and are hashed on the way; the store isn't asked where the file
+/// stands. After a refusal the tree differs at that path at most.
 pub fn repair<P: Fs, D: StoreDisk>(
     fs: &mut P,
     disk: &mut D,
@@ -47,9 +48,11 @@ pub fn repair<P: Fs, D: StoreDisk>(
     ensures grew { Grew (D.seen disk.old) (D.seen disk.new) }
     ensures left { LeavesAll (D.seen disk.old) (D.seen disk.new) }
     ensures store_later { (D.seen disk.old).faults ≤ (D.seen disk.new).faults }
-    ensures unread { IfSome (P.seen fs.old).tree (λ t. StandsAs planned.now (t path.now) → D.seen disk.new ≡ D.seen disk.old) }
+    ensures right_stays { IfSome (P.seen fs.old).tree (λ t. StandsAs planned.now (t path.now) → (P.seen fs.new).tree ≡ (P.seen fs.old).tree) }
+    ensures asks { NeedsNoFile planned.now path.now (P.seen fs.old).tree → D.seen disk.new ≡ D.seen disk.old }
     ensures fault { IfErr result (RepairRefused (P.seen fs.old) (P.seen fs.new) (D.seen disk.old) (D.seen disk.new)) }
     ensures of_plan { IfErr result (IsOfPlan planned.now) }
+    ensures needed { IfErr result (λ e. IfSome (P.seen fs.old).tree (λ t. IsNeeded planned.now (t path.now) e)) }
 {
     grew_law();
     claims_law();
@@ -127,6 +130,7 @@ fn renew<P: Fs, D: StoreDisk>(
     ensures err { OnErr result (IsAt path.now (IsHalf planned.now) (P.seen fs.old).tree (P.seen fs.new).tree) }
     ensures wrote { WroteAt path.now (P.seen fs.old) (P.seen fs.new) }
     ensures reads { ReadsStore (D.seen disk.old) (D.seen disk.new) }
+    ensures asks { NeedsNoFile planned.now path.now (P.seen fs.old).tree → D.seen disk.new ≡ D.seen disk.old }
     ensures fault { IfErr result (RepairRefused (P.seen fs.old) (P.seen fs.new) (D.seen disk.old) (D.seen disk.new)) }
     ensures of_plan { IfErr result (IsOfPlan planned.now) }
 {

@@ -1,5 +1,5 @@
 // A file that the store has.
-ghost use Rattle.std.specs.Prelude.{◌≡◌, ◌≢◌, ◌≤◌, ◌<◌, ℕ, List, [], ◌++◌, min, OnOk, OnErr, IfOk, IfErr, IfSome, Some, length, take};
+ghost use Rattle.std.specs.Prelude.{◌≡◌, ◌≢◌, ◌≤◌, ◌<◌, ℕ, List, [], ◌++◌, nat_le, if◌then◌else◌, OnOk, OnErr, IfOk, IfErr, IfSome, Some, length, take};
 ghost use Rattle.std.specs.Bool.{MatchBool};
 ghost use Rattle.std.specs.Option.{ForSome};
 ghost use Rattle.sha2.specs.Sha512.{sha512};
@@ -35,7 +35,7 @@ pub fn has_digest<P: ReadFs>(
     requires file { ForSome (P.seen fs.old).tree (λ t. kind_of (t path.now) ≡ File size) }
     requires room { 0 < length buffer.old }
     ensures right { IfSome (P.seen fs.old).tree (λ t. IfOk result (λ yes. MatchBool yes (StandsAs (planned.Stored digest.now) (t path.now)) (StandsAs (planned.Stored digest.now) (t path.now) → ⊥))) }
-    ensures gave { IfSome (P.seen fs.old).tree (λ t. GaveAtMost (P.seen fs.old) (min size FILE_LIMIT) 0 (P.seen fs.new)) }
+    ensures gave { IfSome (P.seen fs.old).tree (λ t. GaveAtMost (P.seen fs.old) (if nat_le size FILE_LIMIT then size else 0) 0 (P.seen fs.new)) }
     ensures kept { Keeps (P.seen fs.old) (P.seen fs.new) }
     ensures fault { IfErr result (TreeRefused (P.seen fs.old).faults (P.seen fs.new).faults) }
 {

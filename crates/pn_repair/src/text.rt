@@ -1,5 +1,5 @@
 // A file with bytes of the plan's own.
-ghost use Rattle.std.specs.Prelude.{◌≡◌, ◌≤◌, ◌<◌, ◌↔◌, ◌+◌, true, min, OnOk, OnErr, IfOk, IfErr, IfSome, Some, length, take, drop};
+ghost use Rattle.std.specs.Prelude.{◌≡◌, ◌≤◌, ◌<◌, ◌↔◌, ◌+◌, ◌==◌, if◌then◌else◌, true, OnOk, OnErr, IfOk, IfErr, IfSome, Some, length, take, drop};
 ghost use Rattle.std.specs.Bool.{MatchBool};
 ghost use Rattle.std.specs.Option.{ForSome};
 ghost use Rattle.pn_digest.specs.declared.planned.Planned.TheVariants.{Bytes};
@@ -27,7 +27,7 @@ pub fn has_text<P: ReadFs>(
     requires file { ForSome (P.seen fs.old).tree (λ t. kind_of (t path.now) ≡ File size) }
     requires room { 0 < length buffer.old }
     ensures right { IfSome (P.seen fs.old).tree (λ t. IfOk result (λ yes. MatchBool yes (t path.now ≡ Some (file text.now)) (t path.now ≡ Some (file text.now) → ⊥))) }
-    ensures gave { IfSome (P.seen fs.old).tree (λ t. GaveAtMost (P.seen fs.old) (min size (length text.now)) 0 (P.seen fs.new)) }
+    ensures gave { IfSome (P.seen fs.old).tree (λ t. GaveAtMost (P.seen fs.old) (if size == length text.now then size else 0) 0 (P.seen fs.new)) }
     ensures kept { Keeps (P.seen fs.old) (P.seen fs.new) }
     ensures fault { IfErr result (TreeRefused (P.seen fs.old).faults (P.seen fs.new).faults) }
 {

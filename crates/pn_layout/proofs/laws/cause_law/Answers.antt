@@ -1,4 +1,4 @@
-use Rattle.pn_layout.proofs.RefusedLemmas.{cause}
+use Rattle.pn_layout.proofs.CauseLemmas.{cause}
 use Rattle.pn_layout.proofs.laws.cause_law.Goals as goal
 
 pub returns : goal.returns

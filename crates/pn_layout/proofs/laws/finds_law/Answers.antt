@@ -1,4 +1,4 @@
-use Rattle.pn_layout.proofs.Findings.{finds}
+use Rattle.pn_layout.proofs.FindingLemmas.{finds}
 use Rattle.pn_layout.proofs.laws.finds_law.Goals as goal
 
 pub returns : goal.returns

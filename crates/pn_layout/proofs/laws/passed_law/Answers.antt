@@ -1,4 +1,4 @@
-use Rattle.pn_layout.proofs.RefusedLemmas.{passed}
+use Rattle.pn_layout.proofs.CauseLemmas.{passed}
 use Rattle.pn_layout.proofs.laws.passed_law.Goals as goal
 
 pub returns : goal.returns

@@ -3,7 +3,7 @@ use Rattle.pn_digest.specs.declared.planned.Planned.{Planned}
 use Rattle.pn_digest.specs.declared.planned.Planned.TheVariants.{Bytes}
 use Rattle.pn_text.proofs.Results.{on_err}
 use Rattle.pn_repair.specs.Repairs.{IsHalf, fits}
-use Rattle.pn_repair.specs.Stands.{StandsAs}
+use Rattle.pn_repair.specs.Stands.{StandsAs, NeedsNoFile}
 use Rattle.pn_repair.specs.Writes.{IsAt}
 use Rattle.pn_repair.proofs.FitsLemmas.{free_folder, create_text, create_stored, link_parent}
 use Rattle.pn_repair.proofs.entry.renew.Goals as goal
@@ -49,3 +49,9 @@ pub returns-in-Link-clause-err : goal.returns-in-Link-clause-err
 returns-in-Link-clause-err g c =
     let tree = g.P.ReadFs.seen in
     on_err c.write_link.result (λ h. subst (λ (w : Planned). IsAt c.args.path.now (IsHalf w) (tree c.args.fs.now).tree (tree c.write_link.new.fs).tree) (sym c.in-Link.is) h) c.write_link.ensures.err
+
+pub returns-in-Stored-clause-asks : goal.returns-in-Stored-clause-asks
+returns-in-Stored-clause-asks g c needs =
+    let p = c.args.path.now in
+    let t = subst (λ (w : Planned). NeedsNoFile w p (g.P.ReadFs.seen c.args.fs.now).tree) c.in-Stored.is needs in
+    absurd (c.requires.wrong t.0 t.1 (subst (λ (w : Planned). StandsAs w (t.0 p)) (sym c.in-Stored.is) t.2))

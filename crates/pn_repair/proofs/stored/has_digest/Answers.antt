@@ -3,7 +3,7 @@ use Rattle.pn_text.specs.declared.limits.TheConstants.{FILE_LIMIT}
 use Rattle.pn_fs.proofs.PieceLemmas.{piece_of}
 use Rattle.pn_fs.proofs.SeenLemmas.{keeps_on, keeps_same, gave_at_most}
 use Rattle.pn_text.proofs.Results.{for_some}
-use Rattle.pn_repair.proofs.FrontLemmas.{front_none, front_in, fits_in, gave_more, gave_still, at_most, too_large, hashed_file, hashed_more, digest_right}
+use Rattle.pn_repair.proofs.FrontLemmas.{front_none, front_in, fits_in, gave_more, gave_still, at_small, too_large, hashed_file, hashed_more, digest_right}
 use Rattle.pn_repair.proofs.stored.has_digest.Goals as goal
 
 pub returns-then-size-gt-FILE_LIMIT-clause-right : goal.returns-then-size-gt-FILE_LIMIT-clause-right
@@ -27,7 +27,7 @@ returns-in_err-count-clause-gave g c =
     let inv = c.pieces.invariant in
     let seen = g.P.ReadFs.seen in
     gave_still (seen c.args.fs.now) (seen c.pieces.fs) (seen c.piece.new.fs) c.pieces.at _ inv.kept.tree inv.gave c.in_err-count.ensures.gave_none
-    (at_most _ c.pieces.at c.args.size FILE_LIMIT (front_in _ c.args.path.now inv.hashed.bytes c.pieces.at c.args.size c.requires.file inv.hashed.front) c.if-size-gt-FILE_LIMIT.false)
+    (at_small _ c.pieces.at c.args.size FILE_LIMIT (front_in _ c.args.path.now inv.hashed.bytes c.pieces.at c.args.size c.requires.file inv.hashed.front) c.if-size-gt-FILE_LIMIT.false)
 
 pub returns-then-count-eq0-clause-right : goal.returns-then-count-eq0-clause-right
 returns-then-count-eq0-clause-right g c =
@@ -41,7 +41,7 @@ returns-then-count-eq0-clause-gave g c =
     let seen = g.P.ReadFs.seen in
     let piece = piece_of (seen c.args.fs.now).tree _ c.args.path.now c.pieces.at c.in_ok-count.count c.piece.new.into inv.kept.tree c.in_ok-count.ensures.piece in
     gave_more (seen c.args.fs.now) (seen c.pieces.fs) (seen c.piece.new.fs) c.pieces.at c.in_ok-count.count _ inv.kept.tree inv.gave c.in_ok-count.ensures.gave
-    (at_most _ _ c.args.size FILE_LIMIT (fits_in _ c.args.path.now inv.hashed.bytes c.piece.new.into c.pieces.at c.in_ok-count.count c.args.size c.requires.file inv.hashed.front piece) c.if-size-gt-FILE_LIMIT.false)
+    (at_small _ _ c.args.size FILE_LIMIT (fits_in _ c.args.path.now inv.hashed.bytes c.piece.new.into c.pieces.at c.in_ok-count.count c.args.size c.requires.file inv.hashed.front piece) c.if-size-gt-FILE_LIMIT.false)
 
 pub returns-then-next-gt-FILE_LIMIT-clause-gave : goal.returns-then-next-gt-FILE_LIMIT-clause-gave
 returns-then-next-gt-FILE_LIMIT-clause-gave g c =
@@ -49,7 +49,7 @@ returns-then-next-gt-FILE_LIMIT-clause-gave g c =
     let seen = g.P.ReadFs.seen in
     let piece = piece_of (seen c.args.fs.now).tree _ c.args.path.now c.pieces.at c.in_ok-count.count c.piece.new.into inv.kept.tree c.in_ok-count.ensures.piece in
     gave_more (seen c.args.fs.now) (seen c.pieces.fs) (seen c.piece.new.fs) c.pieces.at c.in_ok-count.count _ inv.kept.tree inv.gave c.in_ok-count.ensures.gave
-    (at_most _ _ c.args.size FILE_LIMIT (fits_in _ c.args.path.now inv.hashed.bytes c.piece.new.into c.pieces.at c.in_ok-count.count c.args.size c.requires.file inv.hashed.front piece) c.if-size-gt-FILE_LIMIT.false)
+    (at_small _ _ c.args.size FILE_LIMIT (fits_in _ c.args.path.now inv.hashed.bytes c.piece.new.into c.pieces.at c.in_ok-count.count c.args.size c.requires.file inv.hashed.front piece) c.if-size-gt-FILE_LIMIT.false)
 
 pub pieces-preserved : goal.pieces-preserved
 pieces-preserved g c =

@@ -2,7 +2,7 @@ use Rattle.std.proofs.Common.{length, arith}
 use Rattle.pn_fs.proofs.PieceLemmas.{piece_of}
 use Rattle.pn_fs.proofs.SeenLemmas.{keeps_on, keeps_same, gave_at_most}
 use Rattle.pn_text.proofs.Results.{for_some}
-use Rattle.pn_repair.proofs.FrontLemmas.{front_none, front_file, fits_in, gave_more, at_most, other_size, whole_text, text_more}
+use Rattle.pn_repair.proofs.FrontLemmas.{front_none, front_file, fits_in, gave_more, at_same, other_size, whole_text, text_more}
 use Rattle.pn_repair.proofs.text.has_text.Goals as goal
 
 pub returns-then-size-text-clause-right : goal.returns-then-size-text-clause-right
@@ -31,7 +31,7 @@ returns-then-count-eq0-clause-gave g c =
     let seen = g.P.ReadFs.seen in
     let piece = piece_of (seen c.args.fs.now).tree _ c.args.path.now c.pieces.at c.in_ok-count.count c.piece.new.into inv.kept.tree c.in_ok-count.ensures.piece in
     gave_more (seen c.args.fs.now) (seen c.pieces.fs) (seen c.piece.new.fs) c.pieces.at c.in_ok-count.count _ inv.kept.tree inv.gave c.in_ok-count.ensures.gave
-    (at_most _ _ c.args.size (length c.args.text.now) (fits_in _ c.args.path.now _ c.piece.new.into c.pieces.at c.in_ok-count.count c.args.size c.requires.file inv.front piece) (omega (arith, c.if-size-text.false)))
+    (at_same _ _ c.args.size (length c.args.text.now) (fits_in _ c.args.path.now _ c.piece.new.into c.pieces.at c.in_ok-count.count c.args.size c.requires.file inv.front piece) c.if-size-text.false)
 
 pub pieces-preserved : goal.pieces-preserved
 pieces-preserved g c =

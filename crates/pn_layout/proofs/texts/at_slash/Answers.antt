@@ -1,5 +1,0 @@
-use Rattle.pn_layout.proofs.Slashes.{split_slash}
-use Rattle.pn_layout.proofs.texts.at_slash.Goals as goal
-
-pub returns : goal.returns
-returns c = split_slash c.args.text.now c.split_once.result c.split_once.ensures.cases

@@ -1,0 +1,13 @@
+pub mod PlannedLemmas
+pub mod MadeLemmas
+pub mod RefusedLemmas
+pub mod SparesLemmas
+pub mod FilledLemmas
+pub mod DownLemmas
+pub mod BeginsLemmas
+pub mod BegunLemmas
+pub mod KeepsLemmas
+pub mod NeedsLemmas
+pub mod BoundsLemmas
+pub mod ReconciledLemmas
+pub mod PhasesLemmas
