@@ -1,0 +1,3 @@
+pub mod RewritesLemmas
+pub mod AnswerLemmas
+mod FoundLemmas
