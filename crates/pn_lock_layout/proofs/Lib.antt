@@ -1,0 +1,12 @@
+mod PlaceLemmas
+mod StepLemmas
+mod LockLemmas
+mod HomeLemmas
+mod DirLemmas
+mod SoundLemmas
+mod NearLemmas
+mod ManagedLemmas
+mod ClosedLemmas
+mod FindingLemmas
+mod PlacedLemmas
+mod RowLemmas
