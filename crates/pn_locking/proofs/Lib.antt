@@ -1,0 +1,5 @@
+mod PlaceLemmas
+mod SplitLemmas
+mod AskedLemmas
+mod WantedLemmas
+mod MadeLemmas

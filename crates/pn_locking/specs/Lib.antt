@@ -1,0 +1,5 @@
+pub mod Asks
+pub mod Projects
+pub mod Wants
+pub mod Integrities
+pub mod Rows
