@@ -1,0 +1,6 @@
+-- what contracts cite
+pub mod Relation
+pub mod BaseTexts
+pub mod Steps
+pub mod Converted
+pub mod DepPaths
