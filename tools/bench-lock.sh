@@ -1,14 +1,14 @@
 #!/bin/sh
-# Prints how fast pn_yaml reads and prints a lockfile of some 5 MB, and how fast python's yaml library reads it, where it
-# is there.
-# Usage: tools/bench-yaml.sh [PATH OF yaml_bench]
+# Prints how fast a lockfile of some 5 MB is read and printed, and how fast python's yaml library reads it, where it is
+# there.
+# Usage: tools/bench-lock.sh [PATH OF lock_bench]
 set -eu
 
 top=$(dirname -- "$(dirname -- "$(readlink -f -- "$0")")")
-program=${1:-$("$top/tools/built.sh" yaml_bench)}
+program=${1:-$("$top/tools/built.sh" lock_bench)}
 
 fail() {
-  echo "bench-yaml: $1" >&2
+  echo "bench-lock: $1" >&2
   exit 1
 }
 
@@ -21,7 +21,7 @@ trap 'exit 1' INT TERM
 text=$work/pnpm-lock.yaml
 "$program" text >"$text"
 [ "$(head -n 1 "$text")" = "lockfileVersion: '9.0'" ] || fail "$program prints no lockfile: $(head -n 1 "$text")"
-echo "bench-yaml: $program, a lockfile of $(wc -c <"$text") bytes"
+echo "bench-lock: $program, a lockfile of $(wc -c <"$text") bytes"
 
 "$program" bench || fail "$program doesn't read its lockfile, or prints other bytes of it"
 
