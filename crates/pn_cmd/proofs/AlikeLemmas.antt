@@ -1,33 +1,39 @@
 -- Of one start a run ends alike.
-use Rattle.std.proofs.Common.{◌≡◌, ◌∷◌, ◌++◌, ◌⊎◌, ℕ, List, map, length, [], arith, refl, sym, ap, ◌∙◌, subst, Option, Some, None, inl, inr, true, false}
+use Rattle.std.proofs.Common.{◌≡◌, ◌∷◌, ◌⊎◌, List, map, length, arith, refl, sym, ap, ◌∙◌, subst, Option, Some, None, inl, inr, true, false}
 use Rattle.std.specs.List.{Contains}
 use Rattle.std.proofs.lemmas.List.{length-map}
 use Rattle.pn_text.specs.Path.{Path}
-use Rattle.pn_fs.specs.Tree.{Tree, IsTree}
+use Rattle.pn_fs.specs.Tree.{Entry, file, Tree, IsTree}
 use Rattle.pn_fs.specs.Seen.{Taken}
 use Rattle.pn_fs.specs.Takes.{told_more}
-use Rattle.pn_node.specs.Plan.{Plan, IsBuilt}
 use Rattle.pn_manifest.specs.Fields.{said}
 use Rattle.pn_manifest.specs.Said.{Said}
-use Rattle.pn_graph.specs.declared.plain.Plain.{Plain}
-use Rattle.pn_plan.specs.Drawing.{is_within}
-use Rattle.pn_plan.specs.declared.planned.Planned.{Planned}
+use Rattle.pn_digest.specs.declared.planned.Planned.{Planned}
+use Rattle.pn_digest.specs.declared.planned.Planned.TheVariants.{Folder, Bytes, Stored, Link}
+use Rattle.pn_storecore.specs.Seen.{Seen as StoreSeen}
+use Rattle.pn_scan.specs.Managed.{Managed, is_managed, is_above}
+use Rattle.pn_repair.specs.Stands.{StandsAs}
+use Rattle.pn_clear.specs.Items.{Item}
+use Rattle.pn_reconcile.specs.Plans.{IsReconciled, Reconciled}
+use Rattle.pn_tree.specs.Trees.{Layout}
+use Rattle.pn_tree.specs.Laws.{AreEntries}
+use Rattle.pn_tree.specs.Refusals.{LayoutRefused}
+use Rattle.pn_tree.specs.declared.fault.LayoutFault.TheVariants.{TooLong as FaultLong}
+use Rattle.pn_fetch.specs.Listings.{AreListingsOf}
+use Rattle.pn_text.proofs.Bools.{true_false}
 use Rattle.pn_choice.proofs.SettledLemmas.{same as same_graph}
-use Rattle.pn_layout.specs.Links.{Pair}
-use Rattle.pn_layout.specs.declared.packages.Package.{Package}
-use Rattle.pn_layout.specs.declared.fault.LayoutFault.TheVariants.{TooLong as FaultLong}
-use Rattle.pn_layout.specs.Layout.{plan_of}
-use Rattle.pn_layout.specs.Refusals.{LayoutRefused}
-use Rattle.pn_layout.specs.Sound.{contents}
-use Rattle.pn_layout.proofs.RefusedLemmas.{same_plan, cause as layout_cause, passed as layout_passed}
-use Rattle.pn_plan.proofs.WithinLemmas.{within_from}
+use Rattle.pn_layout.specs.Layout.{layout_of, IsClosed}
+use Rattle.pn_package.specs.Sound.{contents}
+use Rattle.pn_layout.proofs.AlikeLemmas.{one_long as one_length}
+use Rattle.pn_layout.proofs.CauseLemmas.{same as same_layout}
 use Rattle.pn_collect.specs.Outline.{direct_of}
 use Rattle.pn_collect.specs.Packages.{ArePackages}
 use Rattle.pn_collect.proofs.SameLemmas.{same as same_packages}
-use Rattle.pn_status.specs.declared.status.Which.TheVariants.{File, Path as PathLength, Numbers}
+use Rattle.pn_status.specs.declared.status.Which.TheVariants.{Path as PathLength, Numbers}
+use Rattle.pn_status.specs.declared.status.IntegrityWhy.TheVariants.{Stored as of_store}
 use Rattle.pn_status.specs.declared.status.Status.{Status}
-use Rattle.pn_status.specs.declared.status.Status.TheVariants.{Done, Memory, Limit, DigestClash, ProjectFault, StoreFault, RegistryFault, SinkFault}
-use Rattle.pn_cmd.specs.World.{World, Inputs, Shown, shown, trees_of}
+use Rattle.pn_status.specs.declared.status.Status.TheVariants.{Done, Memory, Integrity, Limit, DigestClash, ProjectFault, StoreFault, RegistryFault, SinkFault}
+use Rattle.pn_cmd.specs.World.{World, Inputs, Shown, shown, trees_of, with_store}
 use Rattle.pn_cmd.specs.Points.{Refuses, IsFree, then}
 use Rattle.pn_cmd.specs.Names.{package_name, lock_name, modules_path}
 use Rattle.pn_cmd.specs.Known.{Space, Declared, Project, Graph, Sources, Fetched, Build, space_of, project_of}
@@ -36,18 +42,22 @@ use Rattle.pn_cmd.specs.Stores.{store}
 use Rattle.pn_workspace.proofs.AnswerLemmas.{answer as space_answer}
 use Rattle.pn_cmd.specs.Words.{words}
 use Rattle.pn_cmd.specs.Standing.{standing}
+use Rattle.pn_cmd.specs.Scans.{managed_of, scanned}
 use Rattle.pn_cmd.specs.Manifests.{Declares, manifest}
 use Rattle.pn_cmd.specs.Graph.{graph, inputs_of, root}
 use Rattle.pn_cmd.specs.Packages.{listed}
-use Rattle.pn_cmd.specs.Plans.{planned, IsPlanned}
-use Rattle.pn_cmd.specs.Chain.{words_at, workspace_at, manifest_at, store_at, lock_at, graph_at, modules_at, listed_at, fetched_at, planned_at, tree, goal, from_store, from_manifest, gathered, prepared, install}
+use Rattle.pn_cmd.specs.Plans.{planned, IsPlanned, layout_at}
+use Rattle.pn_cmd.specs.Chain.{words_at, workspace_at, manifest_at, store_at, lock_at, graph_at, scanned_at, listed_at, fetched_at, planned_at, tree, goal, from_store, from_manifest, gathered, prepared, install}
 use Rattle.pn_cmd.specs.Reports.{report_of}
-use Rattle.pn_cmd.specs.Endings.{Ends, refused, unprepared, stopped, unreported, done, Stops, Unreported, Unwritten, IsDone, IsInstalled, Installs}
-use Rattle.pn_cmd.specs.Laws.{AreTold, IsOwn, Starts, EndAlike, SettledLaw}
+use Rattle.pn_cmd.specs.Endings.{Ends, refused, unprepared, stopped, unreported, done, Stops, Unreported, Unwritten, IsDone}
+use Rattle.pn_cmd.specs.Laws.{AreTold, IsLike, AreAlike, IsOwn, Starts, EndAlike, SettledLaw}
 use Rattle.pn_cmd.proofs.CauseLemmas.{cause_in}
 use Rattle.pn_cmd.proofs.FoundLemmas.{same_manifest}
 use Rattle.pn_cmd.proofs.OrderLemmas.{fetched_free, order_law}
-use Rattle.pn_cmd.proofs.OnceLemmas.{told, words_once, space_once, store_once, stands_once, manifest_once, graph_once, listed_once}
+use Rattle.pn_cmd.proofs.OnceLemmas.{told, words_once, space_once, store_once, stands_once, scanned_once, manifest_once, graph_once, listed_once}
+use Rattle.pn_cmd.proofs.ListingLemmas.{one_listing}
+use Rattle.pn_cmd.proofs.PassedLemmas.{has_passed}
+use Rattle.pn_cmd.proofs.WrittenLemmas.{planned_at as planned_in, rooted}
 use Rattle.pn_cmd.proofs.SettledLemmas.{IsSettled, own_free, then_settled, step_settled, plain_settled}
 
 are_told : (t r : Tree) → AreTold (told t r)
@@ -59,11 +69,14 @@ record OneSource (r : Tree) (k j : Sources) : Type 0 where
   first : ArePackages (Some r) k.graph.plain k.packages
   second : ArePackages (Some r) k.graph.plain j.packages
 
-abbrev OneBuild : Tree → Build → Build → Type 0
-OneBuild r b c = OneSource r b.fetched.sources c.fetched.sources
+-- the same packages, with the same listings
+record OneFetched (r : Tree) (k j : Fetched) : Type 0 where
+  sources : OneSource r k.sources j.sources
+  first : AreListingsOf (Some r) k.sources.packages k.listings
+  second : AreListingsOf (Some r) j.sources.packages j.listings
 
-abbrev OneFetched : Tree → Fetched → Fetched → Type 0
-OneFetched r k j = OneSource r k.sources j.sources
+abbrev OneBuild : Tree → Build → Build → Type 0
+OneBuild r b c = OneFetched r b.fetched c.fetched
 
 abbrev Same : {X : Type 0} → X → X → Type 0
 Same x z = x ≡ z
@@ -111,8 +124,12 @@ graph_settled t r =
     (plain_settled (told t r) Same graph (λ m p q f g. same_graph r (inputs_of m) root p q f g) (λ x y s f c. order_law.graph x (told t r) y s (are_told t r) f c) (λ x s v c d o u. graph_once t r x s v c d o u))
     (λ k j e. ap (λ (k : Project). k.said) e) (λ k j p q e f g h. λ i. record { project = e i; plain = h i })
 
-modules_settled : (t r : Tree) → IsSettled (told t r) Same Same modules_at
-modules_settled t r = step_settled (told t r) Same Any Same Same (λ (k : Graph). modules_path k.project.place) (λ k u. k) standing (standing_settled t r) (λ k j e. ap (λ (k : Graph). modules_path k.project.place) e) (λ k j u v e f g h. e)
+scan_settled : (t r : Tree) → IsTree t → IsSettled (told t r) Same Any scanned
+scan_settled t r tree =
+    plain_settled (told t r) Any scanned (λ x y v f g. tt) (λ x y s f c. order_law.scanned x (told t r) y s (are_told t r) f c) (λ x s v c d o u. scanned_once t r x s v tree c d o u)
+
+scanned_settled : (t r : Tree) → IsTree t → IsSettled (told t r) Same Same scanned_at
+scanned_settled t r tree = step_settled (told t r) Same Any Same Same (λ (k : Graph). modules_path k.project.place) (λ k u. k) scanned (scan_settled t r tree) (λ k j e. ap (λ (k : Graph). modules_path k.project.place) e) (λ k j u v e f g h. e)
 
 listed_settled : (t r : Tree) → IsTree r → IsSettled (told t r) Same (OneSource r) listed_at
 listed_settled t r shape = record {
@@ -129,17 +146,23 @@ listed_settled t r shape = record {
 one_list : (r : Tree) (k j : Sources) → OneSource r k j → map contents k.packages ≡ map contents j.packages
 one_list r k j e = same_packages r k.graph.plain k.packages j.packages e.first e.second
 
-refused_first : (r : Tree) (k j : Sources) (n : ℕ) → OneSource r k j → LayoutRefused (modules_path j.graph.project.place) (direct_of j.graph.plain) j.packages (FaultLong n) → LayoutRefused (modules_path k.graph.project.place) (direct_of k.graph.plain) j.packages (FaultLong n)
-refused_first r k j n e h = subst (λ (m : Graph). LayoutRefused (modules_path m.project.place) (direct_of m.plain) j.packages (FaultLong n)) (sym e.graph) h
+-- the same packages have one layout, but for the order in which they came to be known
+one_layout : (r : Tree) (k j : Fetched) → OneFetched r k j → layout_at j ≡ layout_at k
+one_layout r k j e =
+    let top = modules_path k.sources.graph.project.place in
+    let direct = direct_of k.sources.graph.plain in
+    ap (λ (m : Graph). layout_of (modules_path m.project.place) (direct_of m.plain) j.sources.packages j.listings) (sym e.sources.graph)
+    ∙ ap (layout_of top direct j.sources.packages) (sym (one_listing r k.sources.packages j.sources.packages k.listings j.listings (one_list r k.sources j.sources e.sources) e.first e.second))
+    ∙ sym (same_layout top direct k.sources.packages j.sources.packages k.listings (one_list r k.sources j.sources e.sources))
 
-planned_apart : (t r : Tree) (k j : Sources) (plan : List Planned) (s : Status) → OneSource r k j → IsPlanned k plan → planned.Cause j (told t r) s → IsFree s
+planned_apart : (t r : Tree) (k j : Fetched) (plan : List Item) (s : Status) → OneFetched r k j → IsPlanned k plan → planned.Cause j (told t r) s → IsFree s
 planned_apart t r k j plan (Limit PathLength n) e f c =
-    absurd (layout_passed r (modules_path k.graph.project.place) (direct_of k.graph.plain) k.packages j.packages n (one_list r k j e) (f.fits r) (refused_first r k j n e c))
+    let l : LayoutRefused (layout_at k) (FaultLong n) = subst (λ (l : Layout). LayoutRefused l (FaultLong n)) (one_layout r k j e) c in
+    absurd (omega (arith, f.fits l.path l.what l.planned, l.size_is, l.long))
 planned_apart t r k j plan s e f c = absurd c
 
-planned_once : (t r : Tree) (k j : Sources) (s v : Status) → OneSource r k j → planned.Cause k (told t r) s → planned.Cause j (told t r) v → s ≡ v
-planned_once t r k j (Limit PathLength n) (Limit PathLength m) e c d =
-    ap (Limit PathLength) (layout_cause (modules_path k.graph.project.place) (direct_of k.graph.plain) k.packages j.packages n m (one_list r k j e) c (refused_first r k j m e d))
+planned_once : (t r : Tree) (k j : Fetched) (s v : Status) → OneFetched r k j → planned.Cause k (told t r) s → planned.Cause j (told t r) v → s ≡ v
+planned_once t r k j (Limit PathLength n) (Limit PathLength m) e c d = ap (Limit PathLength) (one_length (layout_at k) n m c (subst (λ (l : Layout). LayoutRefused l (FaultLong m)) (one_layout r k j e) d))
 planned_once t r k j (Limit PathLength n) v e c d = absurd d
 planned_once t r k j s v e c d = absurd c
 
@@ -150,27 +173,30 @@ turned r k j e = record {
   second = subst (λ (m : Graph). ArePackages (Some r) m.plain k.packages) e.graph e.first;
 }
 
+turned_fetch : (r : Tree) (k j : Fetched) → OneFetched r k j → OneFetched r j k
+turned_fetch r k j e = record { sources = turned r k.sources j.sources e.sources; first = e.second; second = e.first }
+
 planned_settled : (t r : Tree) → IsSettled (told t r) (OneFetched r) (OneBuild r) planned_at
 planned_settled t r = record {
   finds = λ k j x z e f g. subst (λ (m : Build). OneBuild r m z) (sym f.is) (subst (OneBuild r (record { fetched = k; plan = f.value })) (sym g.is) e);
-  apart = λ k j x s e f c. planned_apart t r k.sources j.sources f.value s e f.found c;
-  other = λ k j x s e c f. planned_apart t r j.sources k.sources f.value s (turned r k.sources j.sources e) f.found c;
-  cause = λ k j s v e c d o u. planned_once t r k.sources j.sources s v e c d;
+  apart = λ k j x s e f c. planned_apart t r k j f.value s e f.found c;
+  other = λ k j x s e c f. planned_apart t r j k f.value s (turned_fetch r k j e) f.found c;
+  cause = λ k j s v e c d o u. planned_once t r k j s v e c d;
 }
 
 fetched_settled : (t r : Tree) → IsSettled (told t r) (OneSource r) (OneFetched r) fetched_at
 fetched_settled t r = record {
-  finds = λ k j x z e f g. subst (λ (m : Fetched). OneFetched r m z) (sym f.is) (subst (OneFetched r (record { sources = k; listings = f.value })) (sym g.is) e);
+  finds = λ k j x z e f g. subst (λ (m : Fetched). OneFetched r m z) (sym f.is) (subst (OneFetched r (record { sources = k; listings = f.value })) (sym g.is) (record { sources = e; first = f.found; second = g.found }));
   apart = λ k j x s e f c. fetched_free j.packages (told t r) s (are_told t r) c;
   other = λ k j x s e c f. fetched_free k.packages (told t r) s (are_told t r) c;
   cause = λ k j s v e c d o u. own_free s o (fetched_free k.packages (told t r) s (are_told t r) c);
 }
 
-install_settled : (t r : Tree) → IsTree r → IsSettled (told t r) Same (OneBuild r) install
-install_settled t r shape =
+install_settled : (t r : Tree) → IsTree t → IsTree r → IsSettled (told t r) Same (OneBuild r) install
+install_settled t r tree_t shape =
     let w = told t r in
     let one = OneSource r in
-    let trees = then_settled w Same Same one modules_at listed_at (modules_settled t r) (listed_settled t r shape) in
+    let trees = then_settled w Same Same one scanned_at listed_at (scanned_settled t r tree_t) (listed_settled t r shape) in
     let graph = then_settled w Same Same one graph_at tree (graph_settled t r) trees in
     let goals = then_settled w Same Same one lock_at (then graph_at tree) (lock_settled t r) graph in
     let stores = then_settled w Same Same one store_at goal (store_settled t r) goals in
@@ -185,29 +211,27 @@ shown_is t r old at = λ i. record { trees = record { project = at.project i; re
 
 -- A run that ends of itself is refused before anything is written, or done.
 abbrev Ended : Tree → Tree → Inputs → World → World → Status → Type 0
-Ended t r i old new s = (install.Cause i (told t r) s × Unwritten old new) ⊎ ((s ≡ Done) × ((b : Build) × IsDone i b old new))
+Ended t r i old new s = (install.Cause i (told t r) s × Unwritten old new) ⊎ ((s ≡ Done) × ((b : Build) × (mid : StoreSeen) × IsDone i b mid old new))
 
 no_memory : {C : Type 0} (s : Status) → IsOwn s → s ≡ Memory → C
 no_memory s o e = absurd (subst IsOwn e o)
 
-no_stop : {C : Type 0} (t r : Tree) (old new : World) (s : Status) → Starts t r old → IsOwn s → Refuses Stops old new s → C
-no_stop t r old new Memory at o h = absurd o
-no_stop t r old new ProjectFault at o h = absurd o
-no_stop t r old new StoreFault at o h = absurd o
-no_stop t r old new (DigestClash a) at o h = absurd o
-no_stop t r old new (Limit Numbers n) at o h = absurd o
-no_stop t r old new RegistryFault at o h = absurd o
-no_stop t r old new SinkFault at o h = absurd o
-no_stop t r old new (Limit File n) at o h = absurd (none_told r (sym h.1 ∙ at.registry))
-  where
-    none_told : (r : Tree) → None ≡ Some r → ⊥
-    none_told r e = cc e
-no_stop t r old new s at o h = absurd h
+no_stop : {C : Type 0} (plan : List Item) (old new : World) (s : Status) → IsOwn s → Refuses (Stops plan) old new s → C
+no_stop plan old new Memory o h = absurd o
+no_stop plan old new ProjectFault o h = absurd o
+no_stop plan old new StoreFault o h = absurd o
+no_stop plan old new (Integrity (of_store at found)) o h = absurd o
+no_stop plan old new (DigestClash at) o h = absurd o
+no_stop plan old new (Limit Numbers n) o h = absurd o
+no_stop plan old new RegistryFault o h = absurd o
+no_stop plan old new SinkFault o h = absurd o
+no_stop plan old new s o h = absurd h
 
 no_report : {C : Type 0} (old new : World) (s : Status) → IsOwn s → Refuses Unreported old new s → C
 no_report old new Memory o h = absurd o
 no_report old new ProjectFault o h = absurd o
 no_report old new StoreFault o h = absurd o
+no_report old new (Integrity (of_store at found)) o h = absurd o
 no_report old new (DigestClash at) o h = absurd o
 no_report old new (Limit Numbers n) o h = absurd o
 no_report old new RegistryFault o h = absurd o
@@ -223,66 +247,103 @@ ended t r i old new _ at (unprepared s k f c u) o = elim (cause_in (prepared.Cau
   | inl e ↦ no_memory s o e
   | inr h ↦ inl (subst (λ w. install.Cause i w s) (shown_is t r old at) (inr (k, f, h)), u.unwritten)
 ]
-ended t r i old new _ at (stopped s b f c h) o = no_stop t r old new s at o c
-ended t r i old new _ at (unreported s b f c w h) o = no_report old new s o c
-ended t r i old new _ at (done b d) o = inr (refl, (b, d))
+ended t r i old new _ at (stopped s b mid f c h) o = no_stop b.plan (with_store old mid) new s o c
+ended t r i old new _ at (unreported s b mid f c w h) o = no_report old new s o c
+ended t r i old new _ at (done b mid d) o = inr (refl, (b, mid, d))
 
--- two trees with one build, and elsewhere as the same tree
-one_tree : (t u v : Tree) (top : Path) (plan : Plan) → plan.managed ≡ top ∷ [] → IsBuilt u plan → IsBuilt v plan → ((q : Path) → is_within top q ≡ false → u q ≡ t q) → ((q : Path) → is_within top q ≡ false → v q ≡ t q) → (q : Path) → u q ≡ v q
-one_tree t u v top plan managed a b f g q = elim (is_within top q) as (λ w. is_within top q ≡ w → u q ≡ v q) [
-  | false ↦ λ out. f q out ∙ sym (g q out)
-  | true ↦ λ inside. let at = within_from top q inside in ap u at.1 ∙ built_at at.0 ∙ sym (ap v at.1)
+-- what stands as is planned is like what stands so elsewhere
+like : (w : Planned) (a b : Option Entry) → StandsAs w a → StandsAs w b → IsLike a b
+like Folder a b h k = inl (h ∙ sym k)
+like (Bytes text) a b h k = inl (h ∙ sym k)
+like (Stored d) a b h k = inr (h.0, k.0, h.1, k.1, h.2 ∙ sym k.2)
+like (Link text) a b h k = inl (h ∙ sym k)
+
+something : (w : Planned) → StandsAs w None → ⊥
+something Folder h = cc h
+something (Bytes text) h = cc h
+something (Stored d) h = let none : None ≡ Some (file h.0) = h.1 in cc none
+something (Link text) h = cc h
+
+-- the same is planned
+abbrev SamePlans : List Item → List Item → Type 0
+SamePlans p q = (e : Item) → Contains p e → Contains q e
+
+-- two trees with one plan, and elsewhere as the same tree
+like_at : (t u v : Tree) (top : Path) (p q : List Item) → SamePlans p q → SamePlans q p → IsClosed top p → IsClosed top q → IsReconciled (managed_of top) p t u → IsReconciled (managed_of top) q t v → (x : Path) → IsLike (u x) (v x)
+like_at t u v top p q pq qp cp cq a b x = elim (is_managed (managed_of top) x) as (λ m. is_managed (managed_of top) x ≡ m → IsLike (u x) (v x)) [
+  | true ↦ λ inside. elim (u x) as (λ o. u x ≡ o → IsLike o (v x)) [
+    | Some e ↦ λ is.
+        let w = planned_in u top x p e a.has inside is in
+        like w.0 (Some e) (v x) (subst (StandsAs w.0) is (a.has.planned (x, w.0) w.1)) (b.has.planned (x, w.0) (pq (x, w.0) w.1))
+    | None ↦ λ is. elim (v x) as (λ o. v x ≡ o → IsLike None o) [
+      | Some e ↦ λ has.
+          let w = planned_in v top x q e b.has inside has in
+          absurd (something w.0 (subst (StandsAs w.0) is (a.has.planned (x, w.0) (qp (x, w.0) w.1))))
+      | None ↦ λ has. inl refl
+    ] refl
+  ] refl
+  | false ↦ λ outside. elim (is_above (managed_of top) x) as (λ m. is_above (managed_of top) x ≡ m → IsLike (u x) (v x)) [
+    | true ↦ λ up. inl (a.above x up ∙ sym (b.above x up))
+    | false ↦ λ off. inl (kept p u cp a outside off ∙ sym (kept q v cq b outside off))
+  ] refl
 ] refl
   where
-    here : Contains plan.managed top
-    here = subst (λ (l : List Path). Contains l top) (sym managed) (0, omega arith, refl)
+    kept : (plan : List Item) (z : Tree) → IsClosed top plan → IsReconciled (managed_of top) plan t z → is_managed (managed_of top) x ≡ false → is_above (managed_of top) x ≡ false → z x ≡ t x
+    kept plan z closed h outside off = elim (h.others x) [
+      | inl same ↦ same
+      | inr may ↦ elim may [
+        | inl planned ↦ absurd (true_false (is_managed (managed_of top) x) ((rooted top plan closed).within (x, planned.0) planned.1) outside)
+        | inr other ↦ elim other [ inl inside ↦ absurd (true_false (is_managed (managed_of top) x) inside.0 outside) | inr up ↦ absurd (true_false (is_above (managed_of top) x) up.0 off) ]
+      ]
+    ]
 
-    built_at : (x : Path) → u (x ++ top) ≡ v (x ++ top)
-    built_at x = elim (u (x ++ top)) as (λ o. u (x ++ top) ≡ o → o ≡ v (x ++ top)) [
-      | Some e ↦ λ is. sym (b.all (x ++ top) e (a.only top x e here is))
-      | None ↦ λ is. elim (v (x ++ top)) as (λ o. v (x ++ top) ≡ o → None ≡ o) [
-        | Some e ↦ λ has. sym is ∙ a.all (x ++ top) e (b.only top x e here has)
-        | None ↦ λ has. refl
-      ] refl
-    ] refl
+same_plans : (l : Layout) (p q : List Item) → AreEntries l p → AreEntries l q → SamePlans p q
+same_plans l p q a b e c = (b e.0 e.1).1 ((a e.0 e.1).0 c)
 
-installed_told : (registry : Option Tree) (place : Path) (m : Said) (plain : Plain) (packages : List Package) (t r : Tree) (old new : Option Tree) → registry ≡ Some r → old ≡ Some t → Installs registry place m plain packages old new → (u : Tree) × (new ≡ Some u) × IsInstalled (Some r) place m plain packages t u
-installed_told registry place m plain packages t r old new er eo h = subst (λ (o : Option Tree). Installs o place m plain packages (Some t) new) er (subst (λ (o : Option Tree). Installs registry place m plain packages o new) eo h)
+reconciled_told : (managed : List Managed) (plan : List Item) (t : Tree) (old new : Option Tree) → old ≡ Some t → Reconciled managed plan old new → (u : Tree) × (new ≡ Some u) × IsReconciled managed plan t u
+reconciled_told managed plan t old new is h = subst (λ (o : Option Tree). Reconciled managed plan o new) is h
 
 -- two runs that are done
-both_done : (i : Inputs) (t r : Tree) (old new other now : World) (s v : Status) → Starts t r old → Starts t r other → s ≡ Done → v ≡ Done → (a b : Build) → IsDone i a old new → IsDone i b other now → OneBuild r a b → EndAlike old new other now s v
-both_done i t r old new other now s v st ot es ev a b da db one =
+both_done : (i : Inputs) (t r : Tree) (old new other now : World) (s v : Status) → Starts t r old → Starts t r other → s ≡ Done → v ≡ Done → (a b : Build) (mid midway : StoreSeen) → IsDone i a mid old new → IsDone i b midway other now → OneBuild r a b → EndAlike old new other now s v
+both_done i t r old new other now s v st ot es ev a b mid midway da db one =
     let top = modules_path i.place in
-    let own = direct_of a.fetched.sources.graph.plain in
+    let managed = managed_of top in
     let p = a.fetched.sources.packages in
     let q = b.fetched.sources.packages in
-    let same : map contents p ≡ map contents q = one_list r a.fetched.sources b.fetched.sources one in
-    let owns : direct_of b.fetched.sources.graph.plain ≡ own = sym (ap (λ (g : Graph). direct_of g.plain) one.graph) in
-    let plans : plan_of r top (direct_of b.fetched.sources.graph.plain) q ≡ plan_of r top own p = ap (λ (l : List Pair). plan_of r top l q) owns ∙ sym (same_plan r top own p q same) in
-    let ia = installed_told old.registry.tree i.place a.fetched.sources.graph.project.said a.fetched.sources.graph.plain p t r old.project.tree new.project.tree st.registry st.project da.written.project in
-    let ib = installed_told other.registry.tree i.place b.fetched.sources.graph.project.said b.fetched.sources.graph.plain q t r other.project.tree now.project.tree ot.registry ot.project db.written.project in
-    let built : IsBuilt ib.0 (plan_of r top own p) = subst (IsBuilt ib.0) plans ib.2.built in
-    let trees : ia.0 ≡ ib.0 = λ j x. one_tree t ia.0 ib.0 top (plan_of r top own p) refl ia.2.built built ia.2.others ib.2.others x j in
+    let same : map contents p ≡ map contents q = one_list r a.fetched.sources b.fetched.sources one.sources in
     let lengths : length p ≡ length q = sym (length-map p contents) ∙ ap length same ∙ length-map q contents in
+    let ia = reconciled_told managed a.plan t old.project.tree new.project.tree st.project da.written.plan in
+    let ib = reconciled_told managed b.plan t other.project.tree now.project.tree ot.project db.written.plan in
+    let pa = has_passed i (trees_of old) a da.passed in
+    let pb = has_passed i (trees_of other) b db.passed in
+    let ea = pa.planned.entries in
+    let eb : AreEntries (layout_at a.fetched) b.plan = subst (λ (l : Layout). AreEntries l b.plan) (one_layout r a.fetched b.fetched one) pb.planned.entries in
+    let ca : IsClosed top a.plan = subst (λ (k : Project). IsClosed (modules_path k.place) a.plan) pa.gathered.from pa.planned.closed in
+    let cb : IsClosed top b.plan = subst (λ (k : Project). IsClosed (modules_path k.place) b.plan) pb.gathered.from pb.planned.closed in
+    let trees : AreAlike (Some ia.0) (Some ib.0) = λ x. like_at t ia.0 ib.0 top a.plan b.plan (same_plans (layout_at a.fetched) a.plan b.plan ea eb) (same_plans (layout_at a.fetched) b.plan a.plan eb ea) ca cb ia.2 ib.2 x in
     record {
       status = es ∙ sym ev;
-      tree = ia.1 ∙ ap Some trees ∙ sym ib.1;
+      tree = subst (λ (o : Option Tree). AreAlike o now.project.tree) (sym ia.1) (subst (AreAlike (Some ia.0)) (sym ib.1) trees);
       out = λ began. da.told.all ∙ (λ j. told_more (began j) (report_of (lengths j))) ∙ sym db.told.all;
     }
+
+alike : (a : Option Tree) → AreAlike a a
+alike None = tt
+alike (Some u) = λ q. inl refl
 
 found_told : (t r : Tree) (i : Inputs) (old : World) (b : Build) → Starts t r old → install.Finds i (trees_of old) b → install.Finds i (told t r).trees b
 found_told t r i old b at f = subst (λ (w : Shown). install.Finds i w.trees b) (shown_is t r old at) f
 
-both_ended : (i : Inputs) (t r : Tree) (old new other now : World) (s v : Status) → IsTree r → Starts t r old → Starts t r other → IsOwn s → IsOwn v → Ended t r i old new s → Ended t r i other now v → EndAlike old new other now s v
-both_ended i t r old new other now s v shape st ot o u (inl a) (inl b) = record {
-  status = (install_settled t r shape).cause i i s v refl a.0 b.0 o u;
-  tree = a.1.project ∙ st.project ∙ sym ot.project ∙ sym b.1.project;
+both_ended : (i : Inputs) (t r : Tree) (old new other now : World) (s v : Status) → IsTree t → IsTree r → Starts t r old → Starts t r other → IsOwn s → IsOwn v → Ended t r i old new s → Ended t r i other now v → EndAlike old new other now s v
+both_ended i t r old new other now s v tree_t shape st ot o u (inl a) (inl b) = record {
+  status = (install_settled t r tree_t shape).cause i i s v refl a.0 b.0 o u;
+  tree = subst (AreAlike new.project.tree) (a.1.project ∙ st.project ∙ sym ot.project ∙ sym b.1.project) (alike new.project.tree);
   out = λ began. ap (λ (x : Taken). x.bytes) a.1.out ∙ began ∙ sym (ap (λ (x : Taken). x.bytes) b.1.out);
 }
-both_ended i t r old new other now s v shape st ot o u (inl a) (inr b) = own_free s o ((install_settled t r shape).other i i b.1.0 s refl a.0 (found_told t r i other b.1.0 ot b.1.1.passed))
-both_ended i t r old new other now s v shape st ot o u (inr a) (inl b) = own_free v u ((install_settled t r shape).apart i i a.1.0 v refl (found_told t r i old a.1.0 st a.1.1.passed) b.0)
-both_ended i t r old new other now s v shape st ot o u (inr a) (inr b) =
-    both_done i t r old new other now s v st ot a.0 b.0 a.1.0 b.1.0 a.1.1 b.1.1 ((install_settled t r shape).finds i i a.1.0 b.1.0 refl (found_told t r i old a.1.0 st a.1.1.passed) (found_told t r i other b.1.0 ot b.1.1.passed))
+both_ended i t r old new other now s v tree_t shape st ot o u (inl a) (inr b) = own_free s o ((install_settled t r tree_t shape).other i i b.1.0 s refl a.0 (found_told t r i other b.1.0 ot b.1.2.passed))
+both_ended i t r old new other now s v tree_t shape st ot o u (inr a) (inl b) = own_free v u ((install_settled t r tree_t shape).apart i i a.1.0 v refl (found_told t r i old a.1.0 st a.1.2.passed) b.0)
+both_ended i t r old new other now s v tree_t shape st ot o u (inr a) (inr b) =
+    both_done i t r old new other now s v st ot a.0 b.0 a.1.0 b.1.0 a.1.1 b.1.1 a.1.2 b.1.2 ((install_settled t r tree_t shape).finds i i a.1.0 b.1.0 refl (found_told t r i old a.1.0 st a.1.2.passed) (found_told t r i other b.1.0 ot b.1.2.passed))
 
 pub settled_law : SettledLaw
-settled_law i t r old new other now s v shape st ot e f o u = both_ended i t r old new other now s v shape st ot o u (ended t r i old new s st e o) (ended t r i other now v ot f u)
+settled_law i t r old new other now s v tree_t shape st ot e f o u = both_ended i t r old new other now s v tree_t shape st ot o u (ended t r i old new s st e o) (ended t r i other now v ot f u)

@@ -5,6 +5,7 @@ pub mod EndingLemmas
 pub mod FetchLemmas
 pub mod FoundLemmas
 pub mod GraphLemmas
+pub mod ListingLemmas
 pub mod LookupLemmas
 pub mod ManifestLemmas
 pub mod OnceLemmas
@@ -13,6 +14,7 @@ pub mod PassedLemmas
 pub mod RegistryTexts
 pub mod SettledLemmas
 pub mod StandingLemmas
+pub mod ScanLemmas
 pub mod StoreLemmas
 pub mod WrittenLemmas
 mod LinkLemmas

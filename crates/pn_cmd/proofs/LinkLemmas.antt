@@ -12,7 +12,7 @@ use Rattle.pn_graph.specs.declared.links.At.TheVariants.{Project as to_project, 
 use Rattle.pn_graph.specs.declared.links.Dep.{Dep}
 use Rattle.pn_graph.specs.declared.links.Package.{Package}
 use Rattle.pn_shape.specs.Words.{LeadsTo}
-use Rattle.pn_layout.specs.Links.{Id, Pair}
+use Rattle.pn_package.specs.Links.{Id, Pair}
 use Rattle.pn_collect.specs.Outline.{link_to, links_of}
 
 in_link : (packages : List Package) (d : Dep) (place : PkgIx) (found : Package) (i : Id) → d.to ≡ to_package place → slice_get packages place.0 ≡ Some found → found.id ≡ i → Contains (link_to packages d.alias d.to) (d.alias, i)

@@ -9,7 +9,6 @@ use Rattle.pn_text.specs.Name.{name_path}
 use Rattle.pn_text.proofs.Members.{from_map, to_map}
 use Rattle.pn_fs.specs.Tree.{folder, Tree, IsTree}
 use Rattle.pn_node.specs.Find.{find}
-use Rattle.pn_node.specs.Plan.{IsBuilt}
 use Rattle.pn_manifest.specs.Said.{Said}
 use Rattle.pn_walk.specs.Wants.{Id}
 use Rattle.pn_walk.specs.declared.node.Node.{Node}
@@ -27,13 +26,14 @@ use Rattle.pn_shape.specs.Shapes.{deps_by}
 use Rattle.pn_shape.specs.Words.{AreLinks, HasNode}
 use Rattle.pn_choice.specs.Words.{HasWords}
 use Rattle.pn_choice.proofs.WordsLemmas.{words}
-use Rattle.pn_layout.specs.Links.{Pair}
-use Rattle.pn_layout.specs.declared.packages.Package.{Package}
-use Rattle.pn_layout.specs.Laws.{FindsAll, FindsOwn}
-use Rattle.pn_layout.specs.Layout.{plan_of}
-use Rattle.pn_layout.specs.Sound.{IsSoundPackage}
+use Rattle.pn_package.specs.Links.{Pair}
+use Rattle.pn_package.specs.declared.packages.Package.{Package}
+use Rattle.pn_digest.specs.Listing.{Entry}
+use Rattle.pn_layout.specs.Laws.{FindsAll, FindsOwn, IsInstalled}
+use Rattle.pn_layout.specs.Listed.{AreOfPackages}
+use Rattle.pn_package.specs.Sound.{IsSoundPackage}
 use Rattle.pn_layout.specs.Store.{home_of}
-use Rattle.pn_layout.proofs.Findings.{finds}
+use Rattle.pn_layout.proofs.FindingLemmas.{finds}
 use Rattle.pn_collect.specs.Outline.{Outline, outline, wanted, links_of, direct_of}
 use Rattle.pn_collect.specs.Packages.{ArePackages}
 use Rattle.pn_cmd.specs.Names.{modules_path}
@@ -92,9 +92,10 @@ first_is : {r : Option Tree} (m : Said) (plain : Plain) → (g : IsGraphOf r (in
 unfolding first
 first_is m plain g = ap (λ (l : List Project). slice_get l 0) g.shape.projects_are
 
-pub all_found : (r u : Tree) (place : Path) (m : Said) (plain : Plain) (packages : List Package) → IsTree u → IsGraphOf (Some r) (inputs_of m) root plain → ArePackages (Some r) plain packages → IsBuilt u (plan_of r (modules_path place) (direct_of plain) packages) → LooksUp r u place m
-all_found r u place m plain packages tree graph are is_built =
-    let all = finds r (modules_path place) (direct_of plain) packages u tree are.direct are.sound are.whole is_built in
+pub all_found : (r u : Tree) (place : Path) (m : Said) (plain : Plain) (packages : List Package) (listings : List (List Entry)) → IsTree u → IsGraphOf (Some r) (inputs_of m) root plain → ArePackages (Some r) plain packages → AreOfPackages packages listings
+    → IsInstalled u (modules_path place) (direct_of plain) packages listings → LooksUp r u place m
+all_found r u place m plain packages listings tree graph are listed installed =
+    let all = finds u (modules_path place) (direct_of plain) packages listings tree are.direct are.sound listed are.whole installed in
     let said = words r (inputs_of m) root plain graph in
     record {
       inside = λ own n inner starts reaches node stands. inside_is r u place m plain packages n inner said are all ((said.all own starts).package_has n reaches node) stands;

@@ -1,8 +1,8 @@
 -- Of told trees each point refuses for one cause.
-use Rattle.std.proofs.Common.{◌≡◌, ◌<◌, ◌≤◌, ◌⊎◌, ℕ, List, refl, sym, ap, ◌∙◌, subst, arith, Option, Some, None, inl, inr, length}
+use Rattle.std.proofs.Common.{◌≡◌, ◌<◌, ◌≤◌, ◌⊎◌, ◌+◌, ℕ, List, refl, sym, ap, ◌∙◌, subst, arith, Option, Some, None, inl, inr, length}
 use Rattle.std.proofs.lemmas.Option.{same_Some}
 use Rattle.serde_json.specs.Data.{Data}
-use Rattle.pn_text.specs.declared.limits.TheConstants.{PATH_LIMIT, TEXT_LIMIT}
+use Rattle.pn_text.specs.declared.limits.TheConstants.{ENTRY_LIMIT, PATH_LIMIT, TEXT_LIMIT}
 use Rattle.pn_text.specs.Path.{Path, path_text}
 use Rattle.pn_fs.specs.Tree.{Entry, Tree, IsTree}
 use Rattle.pn_fs.proofs.SeenLemmas.{file_once as same_file}
@@ -18,7 +18,7 @@ use Rattle.pn_collect.specs.CollectFaults.{IsFirstRefused}
 use Rattle.pn_collect.specs.declared.fault.CollectFault.{CollectFault}
 use Rattle.pn_collect.proofs.CauseLemmas.{cause as listed_cause}
 use Rattle.pn_manifest.specs.declared.fault.ManifestWhy.TheVariants.{Missing, NotJson, BadField}
-use Rattle.pn_status.specs.declared.status.Which.TheVariants.{Text, Path as PathLength}
+use Rattle.pn_status.specs.declared.status.Which.TheVariants.{Text, Path as PathLength, Entries}
 use Rattle.pn_text.proofs.Bools.{true_false}
 use Rattle.pn_workspace.specs.Laws.{IsOwn as FaultOwn}
 use Rattle.pn_workspace.specs.Stores.{is_misplaced, store_of}
@@ -29,12 +29,14 @@ use Rattle.pn_workspace.specs.declared.search.Workspace.{Workspace}
 use Rattle.pn_workspace.proofs.AnswerLemmas.{answer as space_answer}
 use Rattle.pn_status.specs.declared.status.FileWhy.TheVariants.{Manifest as of_manifest, Workspace as of_workspace}
 use Rattle.pn_status.specs.declared.status.Status.{Status}
-use Rattle.pn_status.specs.declared.status.Status.TheVariants.{Usage, Manifest as BadManifest, Limit, ProjectFault, RegistryFault, NotYet}
+use Rattle.pn_status.specs.declared.status.Status.TheVariants.{Usage, Manifest as BadManifest, Foreign, Limit, ProjectFault, RegistryFault, NotYet}
 use Rattle.pn_cmd.specs.World.{Shown}
 use Rattle.pn_cmd.specs.Words.{AreNoCommand}
 use Rattle.pn_cmd.specs.Known.{Space}
 use Rattle.pn_cmd.specs.Spaces.{NoSpace, space_status, unbuilt_space}
 use Rattle.pn_cmd.specs.Standing.{Stands}
+use Rattle.pn_scan.specs.ScanFaults.{IsForeign, HasMany}
+use Rattle.pn_cmd.specs.Scans.{Unscanned, managed_of}
 use Rattle.pn_cmd.specs.Stores.{NoDefault, projects_of}
 use Rattle.pn_workspace.specs.Contents.{IsText}
 use Rattle.pn_workspace.proofs.AnswerLemmas.{too_large}
@@ -43,6 +45,7 @@ use Rattle.pn_cmd.specs.Graph.{HasNoGraph, choice_status, inputs_of}
 use Rattle.pn_cmd.specs.Packages.{Unlisted, collect_status}
 use Rattle.pn_cmd.specs.Laws.{IsOwn}
 use Rattle.pn_cmd.proofs.OrderLemmas.{same_data}
+use Rattle.pn_cmd.proofs.ScanLemmas.{foreign_once, not_foreign}
 
 -- these trees are told
 abbrev pub told : Tree → Tree → Shown
@@ -107,6 +110,31 @@ stands_once p w s v h k o u = one (stands_as p w s o h) (stands_as p w v u k)
     one (inl a) (inr b) = absurd (omega (arith, a.0, b.0))
     one (inr a) (inl b) = absurd (omega (arith, a.0, b.0))
     one (inr a) (inr b) = a.1 ∙ sym b.1
+
+-- The path is too long, the folder isn't the installer's, or too much stands below it.
+abbrev ScanCause : Tree → Path → Status → Type 0
+ScanCause t p s =
+    ((PATH_LIMIT < length (path_text p)) × (s ≡ Limit PathLength (length (path_text p))))
+    ⊎ ((length (path_text p) ≤ PATH_LIMIT) × (((q : Path) × (s ≡ Foreign q) × IsForeign t (managed_of p) q) ⊎ ((s ≡ Limit Entries (ENTRY_LIMIT + 1)) × HasMany t (managed_of p))))
+
+scan_as : (t r : Tree) (p : Path) (s : Status) → IsOwn s → Unscanned p (told t r) s → ScanCause t p s
+scan_as t r p (Limit PathLength n) o h = inl (omega (arith, h.0, h.1), ap (Limit PathLength) h.0)
+scan_as t r p (Limit Entries n) o h = inr (h.0, inr (ap (Limit Entries) h.1, h.2))
+scan_as t r p (Foreign q) o h = inr (h.0, inl (q, refl, h.1))
+scan_as t r p ProjectFault o h = absurd o
+scan_as t r p s o h = absurd h
+
+pub scanned_once : (t r : Tree) (p : Path) (s v : Status) → IsTree t → Unscanned p (told t r) s → Unscanned p (told t r) v → IsOwn s → IsOwn v → s ≡ v
+scanned_once t r p s v tree h k o u = one (scan_as t r p s o h) (scan_as t r p v u k)
+  where
+    one : ScanCause t p s → ScanCause t p v → s ≡ v
+    one (inl a) (inl b) = a.1 ∙ sym b.1
+    one (inl a) (inr b) = absurd (omega (arith, a.0, b.0))
+    one (inr a) (inl b) = absurd (omega (arith, a.0, b.0))
+    one (inr (x, inl a)) (inr (y, inl b)) = a.1 ∙ ap Foreign (foreign_once t tree p a.0 b.0 a.2 b.2) ∙ sym b.1
+    one (inr (x, inl a)) (inr (y, inr b)) = absurd (not_foreign t p a.0 b.1.ours a.2)
+    one (inr (x, inr a)) (inr (y, inl b)) = absurd (not_foreign t p b.0 a.1.ours b.2)
+    one (inr (x, inr a)) (inr (y, inr b)) = a.0 ∙ sym b.0
 
 -- why a file that is told is refused as a manifest
 abbrev FileRefused : Path → Option Entry → Status → Type 0

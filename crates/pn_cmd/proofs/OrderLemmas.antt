@@ -14,7 +14,7 @@ use Rattle.pn_collect.specs.Packages.{ArePackages}
 use Rattle.pn_collect.specs.CollectFaults.{IsFirstRefused}
 use Rattle.pn_collect.proofs.Passed.{passed as listed_passed}
 use Rattle.pn_manifest.specs.declared.fault.ManifestWhy.TheVariants.{Missing, NotJson, BadField}
-use Rattle.pn_status.specs.declared.status.Which.TheVariants.{File, Text, Path as PathLength, Numbers}
+use Rattle.pn_status.specs.declared.status.Which.TheVariants.{File, Text, Path as PathLength, Entries, Numbers}
 use Rattle.pn_text.proofs.Bools.{true_false}
 use Rattle.pn_workspace.specs.Stores.{is_misplaced, store_of}
 use Rattle.pn_workspace.specs.declared.fault.WorkspaceWhy.TheVariants.{BadKey}
@@ -22,13 +22,14 @@ use Rattle.pn_workspace.specs.declared.search.Workspace.{Workspace}
 use Rattle.pn_workspace.proofs.AnswerLemmas.{answer as space_answer}
 use Rattle.pn_status.specs.declared.status.FileWhy.TheVariants.{Manifest as of_manifest, Workspace as of_workspace}
 use Rattle.pn_status.specs.declared.status.Status.{Status}
-use Rattle.pn_status.specs.declared.status.Status.TheVariants.{Usage, Manifest as BadManifest, Limit, DigestClash, ProjectFault, StoreFault, RegistryFault, NotYet}
-use Rattle.pn_layout.specs.declared.packages.Package.{Package}
+use Rattle.pn_status.specs.declared.status.Status.TheVariants.{Usage, Manifest as BadManifest, Foreign, Limit, DigestClash, ProjectFault, StoreFault, RegistryFault, NotYet}
+use Rattle.pn_package.specs.declared.packages.Package.{Package}
 use Rattle.pn_cmd.specs.World.{Shown}
 use Rattle.pn_cmd.specs.Points.{IsFree, Excludes}
 use Rattle.pn_cmd.specs.Words.{words}
 use Rattle.pn_cmd.specs.Spaces.{IsSpace, NoSpace, unbuilt_space, workspace}
 use Rattle.pn_cmd.specs.Standing.{standing}
+use Rattle.pn_cmd.specs.Scans.{IsScanned, Unscanned, managed_of, scanned}
 use Rattle.pn_cmd.specs.Stores.{projects_of, store}
 use Rattle.pn_cmd.specs.Manifests.{NoManifest, IsProjectManifest, manifest, project_later}
 use Rattle.pn_cmd.specs.Graph.{graph, inputs_of, root}
@@ -36,6 +37,7 @@ use Rattle.pn_cmd.specs.Packages.{listed}
 use Rattle.pn_cmd.specs.Fetches.{fetched, Unfetched}
 use Rattle.pn_cmd.specs.Plans.{planned}
 use Rattle.pn_cmd.specs.Laws.{AreTold, OrderLaw}
+use Rattle.pn_cmd.proofs.ScanLemmas.{few_or_many, not_foreign}
 
 none_some : {X : Type 0} (x : X) → None ≡ Some x → ⊥
 none_some x h = cc h
@@ -53,6 +55,18 @@ stands_law p w y ProjectFault told ok h = tt
 stands_law p w y s told ok h = absurd h
 
 -- the same where the tree is written out
+scanned_in : (t : Tree) (registry : Option Tree) (p : Path) (s : Status) → IsScanned (Some t) p → Unscanned p (record { trees = record { project = Some t; registry = registry } }) s → IsFree s
+scanned_in t registry p (Limit PathLength n) ok h = absurd (omega (arith, ok.fits, h.0, h.1))
+scanned_in t registry p (Limit Entries n) ok h = absurd (few_or_many t (managed_of p) ok.few h.2)
+scanned_in t registry p (Foreign q) ok h = absurd (not_foreign t p q ok.ours h.1)
+scanned_in t registry p ProjectFault ok h = tt
+scanned_in t registry p s ok h = absurd h
+
+scanned_law : Excludes scanned AreTold
+scanned_law p w y s told ok h =
+    scanned_in told.tree w.trees.registry p s (subst (λ (o : Option Tree). IsScanned o p) told.project ok)
+    (subst (λ (o : Option Tree). Unscanned p (record { trees = record { project = o; registry = w.trees.registry } }) s) told.project h)
+
 space_at : (t : Tree) (registry : Option Tree) (p : Path) (v : Workspace) (s : Status) → IsSpace (Some t) p v → NoSpace p (record { trees = record { project = Some t; registry = registry } }) s → IsFree s
 space_at t registry p v ProjectFault ok h = tt
 space_at t registry p v (NotYet text) ok h = absurd (none_some text (sym ok.built ∙ ap (unbuilt_space p) (space_answer.value t p v h.1.0 ok.found h.1.1) ∙ h.1.2))
@@ -123,15 +137,10 @@ fetched_free packages w s told h = absurd h
 fetched_law : Excludes fetched AreTold
 fetched_law k w listings s told ok h = fetched_free k.packages w s told h
 
--- a tree with nothing in it, since the build's paths are the same whatever the registry has
-nothing : Tree
-nothing q = None
-
 planned_law : Excludes planned AreTold
 planned_law k w plan (Limit PathLength n) told ok h =
-    let l = h nothing in
-    absurd (omega (arith, ok.fits nothing l.path l.entry l.built, l.size_is, l.long))
+    absurd (omega (arith, ok.fits h.path h.what h.planned, h.size_is, h.long))
 planned_law k w plan s told ok h = absurd h
 
 pub order_law : OrderLaw
-order_law = record { words = words_law; workspace = space_law; standing = stands_law; manifest = manifest_law; store = store_law; graph = graph_law; listed = listed_law; fetched = fetched_law; planned = planned_law }
+order_law = record { words = words_law; workspace = space_law; standing = stands_law; scanned = scanned_law; manifest = manifest_law; store = store_law; graph = graph_law; listed = listed_law; fetched = fetched_law; planned = planned_law }

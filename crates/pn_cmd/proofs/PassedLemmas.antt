@@ -12,13 +12,15 @@ use Rattle.pn_status.specs.declared.status.Status.{Status}
 use Rattle.pn_cmd.specs.declared.ready.Gathered.{Gathered}
 use Rattle.pn_cmd.specs.World.{Trees, Inputs, trees}
 use Rattle.pn_cmd.specs.Words.{is_install}
+use Rattle.pn_fetch.specs.Listings.{AreListingsOf}
 use Rattle.pn_cmd.specs.Names.{package_name, lock_name, modules_path}
-use Rattle.pn_cmd.specs.Readies.{IsGathered, IsSpaceReady, IsDeclaredReady, IsGoalReady, IsTreeReady}
+use Rattle.pn_cmd.specs.Readies.{HasScan, IsGathered, IsSpaceReady, IsDeclaredReady, IsGoalReady, IsTreeReady}
 use Rattle.pn_cmd.specs.Spaces.{IsSpace}
 use Rattle.pn_cmd.specs.Stores.{IsDefault}
 use Rattle.pn_workspace.specs.declared.search.Workspace.{Workspace}
 use Rattle.pn_cmd.specs.Graph.{inputs_of, root}
 use Rattle.pn_cmd.specs.Standing.{NothingStands}
+use Rattle.pn_cmd.specs.Scans.{IsScanned}
 use Rattle.pn_cmd.specs.Manifests.{Declares}
 use Rattle.pn_cmd.specs.Known.{Space, Declared, Project, Graph, Sources, Fetched, Build, space_of, declared_of, project_of, graph_of, sources_of}
 use Rattle.pn_cmd.specs.Plans.{IsPlanned}
@@ -27,7 +29,7 @@ use Rattle.pn_cmd.specs.Chain.{install, gathered, from_manifest, from_store, tre
 -- what is found from the packages that are reached on
 record HasTree (k : Graph) (t : Trees) (b : Sources) : Type 0 where
   from : b.graph ≡ k
-  free : NothingStands t.project (modules_path k.project.place)
+  scanned : IsScanned t.project (modules_path k.project.place)
   listed : ArePackages t.registry k.plain b.packages
 
 -- and from the first point on
@@ -35,18 +37,19 @@ pub record HasGathered (i : Inputs) (t : Trees) (b : Sources) : Type 0 where
   pub from : b.graph.project ≡ project_of i.place b.graph.project.said
   pub declares : Declares t.project (package_name ∷ i.place) b.graph.project.said
   pub graph : IsGraphOf t.registry (inputs_of b.graph.project.said) root b.graph.plain
-  pub free : NothingStands t.project (modules_path i.place)
+  pub scanned : IsScanned t.project (modules_path i.place)
   pub listed : ArePackages t.registry b.graph.plain b.packages
 
 -- and of the plan
 pub record HasPassed (i : Inputs) (t : Trees) (b : Build) : Type 0 where
   pub gathered : HasGathered i t b.fetched.sources
-  pub planned : IsPlanned b.fetched.sources b.plan
+  pub listings : AreListingsOf t.registry b.fetched.sources.packages b.fetched.listings
+  pub planned : IsPlanned b.fetched b.plan
 
 has_tree : (k : Graph) (t : Trees) (b : Sources) → tree.Finds k t b → HasTree k t b
 has_tree k t b n = record {
   from = ap (λ (c : Sources). c.graph) n.rest.is ∙ n.first.is;
-  free = n.first.found;
+  scanned = n.first.found;
   listed = subst (λ (c : Sources). ArePackages t.registry k.plain c.packages) (sym n.rest.is) (subst (λ (k : Graph). ArePackages t.registry k.plain n.rest.value) n.first.is n.rest.found);
 }
 
@@ -66,16 +69,17 @@ has_gathered i t b f =
       from = project ∙ ap (project_of i.place) own;
       declares = subst (Declares t.project (package_name ∷ i.place)) own (subst (λ p. Declares t.project (package_name ∷ p) m.first.value) place m.first.found);
       graph = subst (λ (k : Graph). IsGraphOf t.registry (inputs_of k.project.said) root k.plain) (sym graph) g.first.found;
-      free = subst (λ (k : Project). NothingStands t.project (modules_path k.place)) (ap (λ (k : Graph). k.project) (sym h.from) ∙ project) h.free;
+      scanned = subst (λ (k : Project). IsScanned t.project (modules_path k.place)) (ap (λ (k : Graph). k.project) (sym h.from) ∙ project) h.scanned;
       listed = subst (λ (k : Graph). ArePackages t.registry k.plain b.packages) (sym h.from) h.listed;
     }
 
 pub has_passed : (i : Inputs) (t : Trees) (b : Build) → install.Finds i t b → HasPassed i t b
 has_passed i t b f =
-    let sources : b.fetched.sources ≡ f.value = ap (λ (b : Build). b.fetched.sources) f.rest.rest.is ∙ ap (λ (k : Fetched). k.sources) f.rest.first.is in
+    let fetched : b.fetched ≡ record { sources = f.value; listings = f.rest.first.value } = ap (λ (b : Build). b.fetched) f.rest.rest.is ∙ f.rest.first.is in
     record {
-      gathered = subst (HasGathered i t) (sym sources) (has_gathered i t f.value f.first);
-      planned = subst (λ (b : Build). IsPlanned b.fetched.sources b.plan) (sym f.rest.rest.is) f.rest.rest.found;
+      gathered = subst (HasGathered i t) (sym (ap (λ (k : Fetched). k.sources) fetched)) (has_gathered i t f.value f.first);
+      listings = subst (λ (k : Fetched). AreListingsOf t.registry k.sources.packages k.listings) (sym fetched) f.rest.first.found;
+      planned = subst (λ (b : Build). IsPlanned b.fetched b.plan) (sym f.rest.rest.is) f.rest.rest.found;
     }
 
 -- what is ready after the plain graph is ready from the lockfile on
@@ -85,6 +89,7 @@ goal_ready (Err s) place said plain old mid registry later k l stands found h = 
 goal_ready (Ok all) place said plain old mid registry later k l stands found h = record {
   plain = plain;
   direct = h.direct;
+  scan = subst (λ (t : Option Tree). HasScan t place all.scan) k.tree h.scan;
   finds = record {
     value = project_of place said;
     first = record { value = tt; found = stands; is = refl };
@@ -103,6 +108,7 @@ declared_ready (Err s) place w said t default h = tt
 declared_ready (Ok all) place w said t default h = record {
   plain = h.plain;
   direct = h.direct;
+  scan = h.scan;
   finds = record {
     value = project_of place said;
     first = record { value = tt; found = default; is = refl };
@@ -117,6 +123,7 @@ space_ready (Ok all) place w said old mid registry k declares h = record {
   said = said;
   plain = h.plain;
   direct = h.direct;
+  scan = subst (λ (t : Option Tree). HasScan t place all.scan) k.tree h.scan;
   finds = record {
     value = declared_of place w said;
     first = record { value = said; found = declares; is = refl };
@@ -132,6 +139,7 @@ ready_from (Ok all) i w old mid registry k words space h = record {
   said = h.said;
   plain = h.plain;
   direct = h.direct;
+  scan = subst (λ (t : Option Tree). HasScan t i.place all.scan) k.tree h.scan;
   finds = record {
     value = i.place;
     first = record { value = tt; found = words; is = refl };

@@ -1,5 +1,5 @@
 -- Lemmas on points that follow one another.
-use Rattle.std.proofs.Common.{◌≡◌, ℕ, refl, sym, subst, inl, inr, Option}
+use Rattle.std.proofs.Common.{◌≡◌, refl, subst, inl, inr, Option}
 use Rattle.pn_text.specs.Causes.{Rose}
 use Rattle.pn_fs.specs.Seen.{Seen, Taken, Keeps}
 use Rattle.pn_fs.specs.Tree.{Tree}
@@ -7,9 +7,11 @@ use Rattle.pn_fs.proofs.SeenLemmas.{keeps_same, rose_from}
 use Rattle.pn_storecore.specs.Seen.{Seen as Stored}
 use Rattle.pn_store.specs.declared.number.TheConstants.{NUMBERS}
 use Rattle.pn_store.specs.Claims.{AreTaken}
+use Rattle.pn_repair.specs.RepairFaults.{IsWrongFile}
+use Rattle.pn_status.specs.declared.status.IntegrityWhy.TheVariants.{Stored as of_store}
 use Rattle.pn_status.specs.declared.status.Which.TheVariants.{Numbers}
 use Rattle.pn_status.specs.declared.status.Status.{Status}
-use Rattle.pn_status.specs.declared.status.Status.TheVariants.{Memory, Limit, DigestClash, ProjectFault, StoreFault, RegistryFault, SinkFault}
+use Rattle.pn_status.specs.declared.status.Status.TheVariants.{Memory, Integrity, Limit, DigestClash, ProjectFault, StoreFault, RegistryFault, SinkFault}
 use Rattle.pn_cmd.specs.World.{World, Shown, AreKept, world, trees_of, shown}
 use Rattle.pn_cmd.specs.Points.{Clashed, Point, Refuses, then}
 
@@ -24,6 +26,7 @@ pub refuses_from : (C D : Shown → Status → Type 0) (old mid new : World) (s 
 refuses_from C D old mid new Memory k f h = tt
 refuses_from C D old mid new ProjectFault k f h = (rose_from old.project.faults mid.project.faults new.project.faults k.project.later h.0, f ProjectFault (subst (λ w. C w ProjectFault) (same_shown old mid k) h.1))
 refuses_from C D old mid new StoreFault k f h = (subst (λ (t : Stored). Rose t.faults new.store.faults) k.store h.0, f StoreFault (subst (λ w. C w StoreFault) (same_shown old mid k) h.1))
+refuses_from C D old mid new (Integrity (of_store at found)) k f h = (subst (λ (t : Stored). IsWrongFile at found t new.store) k.store h.0, f (Integrity (of_store at found)) (subst (λ w. C w (Integrity (of_store at found))) (same_shown old mid k) h.1))
 refuses_from C D old mid new (DigestClash at) k f h = (
   subst (λ (r : Option Tree). Clashed r at old.store new.store) k.registry.tree (subst (λ (t : Stored). Clashed mid.registry.tree at t new.store) k.store h.0),
   f (DigestClash at) (subst (λ w. C w (DigestClash at)) (same_shown old mid k) h.1),

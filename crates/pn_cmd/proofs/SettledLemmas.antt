@@ -1,8 +1,9 @@
 -- Lemmas on points that answer alike.
 use Rattle.std.proofs.Common.{◌≡◌, sym, subst, inl, inr}
+use Rattle.pn_status.specs.declared.status.IntegrityWhy.TheVariants.{Stored as of_store}
 use Rattle.pn_status.specs.declared.status.Which.TheVariants.{Numbers}
 use Rattle.pn_status.specs.declared.status.Status.{Status}
-use Rattle.pn_status.specs.declared.status.Status.TheVariants.{Memory, Limit, DigestClash, ProjectFault, StoreFault, RegistryFault, SinkFault}
+use Rattle.pn_status.specs.declared.status.Status.TheVariants.{Memory, Integrity, Limit, DigestClash, ProjectFault, StoreFault, RegistryFault, SinkFault}
 use Rattle.pn_cmd.specs.World.{Shown}
 use Rattle.pn_cmd.specs.Points.{Point, then, step, IsFree}
 use Rattle.pn_cmd.specs.Laws.{IsOwn}
@@ -18,6 +19,7 @@ pub own_free : {C : Type 0} (s : Status) → IsOwn s → IsFree s → C
 own_free Memory o f = absurd o
 own_free ProjectFault o f = absurd o
 own_free StoreFault o f = absurd o
+own_free (Integrity (of_store at found)) o f = absurd o
 own_free (DigestClash at) o f = absurd o
 own_free (Limit Numbers n) o f = absurd o
 own_free RegistryFault o f = absurd o

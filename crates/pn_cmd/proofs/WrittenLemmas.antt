@@ -1,86 +1,79 @@
--- What is planned can be written, and what it makes of the project's tree.
-use Rattle.std.proofs.Common.{◌≡◌, List, ◌++◌, refl, sym, ◌∙◌, subst, Option, Some, None, true, false}
-use Rattle.std.specs.Prelude.{IfSome}
+-- What is planned is of the managed folder, and what a tree finds that has it.
+use Rattle.std.proofs.Common.{◌≡◌, List, [], ◌∷◌, ◌++◌, refl, sym, ap, ◌∙◌, subst, arith, map, Option, Some, inl, inr, true, false}
+use Rattle.std.specs.List.{AllZip, Contains}
 use Rattle.pn_text.specs.Path.{Path}
-use Rattle.pn_fs.specs.Tree.{folder, Tree, IsTree}
-use Rattle.pn_node.specs.Plan.{IsBuilt}
-use Rattle.pn_manifest.specs.Said.{Said}
-use Rattle.pn_graph.specs.declared.plain.Plain.{Plain}
-use Rattle.pn_layout.specs.Links.{Pair}
-use Rattle.pn_plan.specs.declared.planned.Planned.{Planned}
-use Rattle.pn_plan.specs.declared.planned.What.{What}
-use Rattle.pn_plan.specs.declared.planned.What.TheVariants.{Folder, Bytes, Copied, Link}
-use Rattle.pn_plan.specs.Drawing.{is_within}
-use Rattle.pn_plan.specs.Plan.{is_planned, Plans, IsRising, IsWritable, IsCopyable, CanCopy}
-use Rattle.pn_plan.specs.Writes.{Writes, DiffersOnly}
-use Rattle.pn_plan.proofs.Writable.{writable, none_within, planned_entry}
-use Rattle.pn_layout.specs.declared.packages.Package.{Package}
-use Rattle.pn_layout.specs.Sound.{FilesStand}
-use Rattle.pn_layout.specs.Layout.{plan_of}
-use Rattle.pn_layout.proofs.Builds.{built}
-use Rattle.pn_plan.proofs.WithinLemmas.{is_within_at}
-use Rattle.pn_collect.specs.Outline.{HaveFiles, direct_of}
-use Rattle.pn_cmd.specs.Names.{modules_path}
-use Rattle.pn_cmd.specs.Plans.{IsPlan}
-use Rattle.pn_cmd.specs.Lookup.{LooksUp}
-use Rattle.pn_cmd.specs.Endings.{Installs}
+use Rattle.pn_text.proofs.Bools.{or_cases}
+use Rattle.pn_text.proofs.Members.{here, in_one}
+use Rattle.pn_fs.specs.Tree.{Entry, Tree}
+use Rattle.pn_digest.specs.Listing.{Entry as Line}
+use Rattle.pn_digest.specs.declared.planned.Planned.{Planned}
+use Rattle.pn_digest.specs.declared.planned.Planned.TheVariants.{Folder, Bytes}
+use Rattle.pn_scan.specs.Managed.{Managed, is_below, is_within, is_managed, marker_name}
+use Rattle.pn_scan.proofs.ManagedLemmas.{within_itself, within_cases, below_within, below_longer}
+use Rattle.pn_package.specs.Links.{Pair}
+use Rattle.pn_package.specs.declared.packages.Package.{Package}
+use Rattle.pn_tree.specs.Laws.{AreEntries}
+use Rattle.pn_layout.specs.Layout.{marker_text, layout_of, IsClosed}
+use Rattle.pn_layout.specs.Laws.{IsInstalled}
+use Rattle.pn_layout.specs.Listed.{AreOfPackages, HasListing}
+use Rattle.pn_collect.specs.Outline.{package_id}
+use Rattle.std.specs.Cmp.Lexicographic.{slice_cmp}
+use Rattle.std.specs.List.Sorted.{IsStrictlySortedBy}
+use Rattle.std.specs.Ordering.{nat_cmp}
+use Rattle.pn_fetch.specs.Listings.{AreListingsOf}
+use Rattle.pn_reconcile.specs.Plans.{IsRooted, IsPlanned, HasPlan}
+use Rattle.pn_cmd.specs.Scans.{managed_of}
 
--- the managed folder's place is free
-pub can_write : (t : Tree) (place : Path) (own : List Pair) (packages : List Package) (plan : List Planned) → IsTree t → t (modules_path place) ≡ None → t place ≡ Some folder → IsRising plan → IsPlan place own packages plan → IsWritable t plan
-can_write t place own packages plan tree absent parent rising is =
-    writable t (modules_path place) plan tree rising (record {
-      free = record { absent = absent; parent = parent };
-      within = λ p w h. let at = is.closed.within p w h in subst (λ q. is_within (modules_path place) q ≡ true) (sym at.1) (is_within_at at.0 (modules_path place));
-      parents = is.closed.parents;
-    })
+-- what is at or below the folder is managed
+pub within_at : (r top : Path) → is_within top (r ++ top) ≡ true
+within_at [] top = within_itself top
+within_at (x ∷ r) top = below_within top (x ∷ (r ++ top)) (within_at r top)
 
-copied_is : (w : What) (r : Tree) (place : Path) (own : List Pair) (packages : List Package) (plan : List Planned) (q : Path) → IsPlan place own packages plan → HaveFiles r packages → Plans plan q w → CanCopy r w
-copied_is Folder r place own packages plan q is files h = tt
-copied_is (Bytes text) r place own packages plan q is files h = tt
-copied_is (Link text) r place own packages plan q is files h = tt
-copied_is (Copied c) r place own packages plan q is files h =
-    let from = is.closed.copied q c h in
-    let its = files from.0 from.2 in
-    let stands = its.stand from.1 from.3 in
-    subst (λ p. CanCopy r (Copied p)) (sym from.4) (record { bytes = stands.0; stands = stands.1; short = its.short from.1 stands.0 from.3 stands.1 })
+one_managed : (top q : Path) → is_within top q ≡ true → is_managed (managed_of top) q ≡ true
+one_managed top q h = rw h refl
 
--- what is copied stands in the registry
-pub can_copy : (r : Tree) (place : Path) (own : List Pair) (packages : List Package) (plan : List Planned) → IsPlan place own packages plan → HaveFiles r packages → IsCopyable r plan
-can_copy r place own packages plan is files e has = copied_is e.what r place own packages plan e.path is files has
+pub is_one : (top q : Path) → is_managed (managed_of top) q ≡ true → is_within top q ≡ true
+is_one top q h = elim (or_cases (is_within top q) false h) [ inl a ↦ a | inr b ↦ cc b ]
 
--- what is planned lies at or below the managed folder
-outside : (place : Path) (own : List Pair) (packages : List Package) (plan : List Planned) (q : Path) → IsPlan place own packages plan → is_within (modules_path place) q ≡ false → is_planned plan q ≡ false
-outside place own packages plan q is out = elim (is_planned plan q) as (λ b. is_planned plan q ≡ b → b ≡ false) [
-  | false ↦ λ e. refl
-  | true ↦ λ e.
-      let p = planned_entry plan q e in
-      let at = is.closed.within p.0.path p.0.what p.1 in
-      let inside : is_within (modules_path place) q ≡ true = subst (λ x. is_within (modules_path place) x ≡ true) (sym at.1 ∙ p.2) (is_within_at at.0 (modules_path place)) in
-      cc (inside, out)
-] refl
+-- what is planned in the managed folder has it as its root
+pub rooted : (top : Path) (plan : List (Path × Planned)) → IsClosed top plan → IsRooted (managed_of top) plan
+rooted top plan closed = record {
+  tops = λ m c. subst (λ (n : Managed). Contains plan (n.0, Folder)) (in_one (top, marker_text) m c) closed.managed;
+  markers = λ m c. subst (λ (n : Managed). Contains plan (marker_name ∷ n.0, Bytes n.1)) (in_one (top, marker_text) m c) closed.marker;
+  within = λ e c. let at = closed.within e.0 e.1 c in subst (λ q. is_managed (managed_of top) q ≡ true) (sym at.1) (one_managed top (at.0 ++ top) (within_at at.0 top));
+  parents = λ x p w c managed. elim (closed.parents x p w c) [
+    | inl same ↦ absurd (itself top (subst (λ q. is_below top q ≡ true) same (is_one top p managed)))
+    | inr has ↦ has
+  ];
+}
+  where
+    itself : (p : Path) → is_below p p ≡ true → ⊥
+    itself p h = omega (arith, below_longer p p h)
 
-pub only_below : (place : Path) (own : List Pair) (packages : List Package) (plan : List Planned) (old new : Option Tree) → IsPlan place own packages plan → DiffersOnly (is_planned plan) old new
-    → DiffersOnly (is_within (modules_path place)) old new
-only_below place own packages plan old new is h t told = let u = h t told in (u.0, u.1, λ q out. u.2 q (outside place own packages plan q is out))
+-- what is managed is below the folder
+pub split_at : (top q : Path) → is_within top q ≡ true → (r : Path) × (q ≡ r ++ top)
+split_at top [] h = elim (within_cases top [] h) [ inl e ↦ ([], e) | inr b ↦ cc b ]
+split_at top (x ∷ q) h = elim (within_cases top (x ∷ q) h) [
+  | inl e ↦ ([], e)
+  | inr b ↦ let s = split_at top q b in (x ∷ s.0, ap (λ (p : Path). x ∷ p) s.1)
+]
 
--- What is written is installed. The lookup follows from the build, for each tree that has it.
-pub installs : (registry : Option Tree) (place : Path) (m : Said) (plain : Plain) (packages : List Package) (plan : List Planned) (old new : Option Tree) → IsPlan place (direct_of plain) packages plan → IfSome registry (λ r. FilesStand r packages)
-    → ((t : Tree) → old ≡ Some t → IsTree t) → ((u : Tree) → new ≡ Some u → IsTree u) → ((r u : Tree) → registry ≡ Some r → IsTree u → IsBuilt u (plan_of r (modules_path place) (direct_of plain) packages) → LooksUp r u place m)
-    → IfSome old (λ t. t (modules_path place) ≡ None) → Writes registry plan old new → Installs registry place m plain packages old new
-installs registry place m plain packages plan None new is stand tree after looks absent h = h
-installs None place m plain packages plan (Some t) new is stand tree after looks absent h =
-    (h.0, h.1, record { tree = after h.0 h.1; built = tt; lookup = tt; others = λ q out. h.2.others q (outside place (direct_of plain) packages plan q is out) })
-installs (Some r) place m plain packages plan (Some t) new is stand tree after looks absent h =
-    let own = direct_of plain in
-    let top = modules_path place in
-    let none = λ (q : Path). none_within t (tree t refl) top (q ++ top) absent (is_within_at q top) in
-    let all : IsBuilt h.0 (plan_of r top own packages) = (built r top own packages plan t h.0 (is.build r stand) h.2 none).built in (
-      h.0,
-      h.1,
-      record {
-        tree = after h.0 h.1;
-        built = all;
-        lookup = looks r h.0 refl (after h.0 h.1) all;
-        others = λ q out. h.2.others q (outside place own packages plan q is out);
-      },
-    )
+-- what stands there is planned
+pub planned_at : (u : Tree) (top q : Path) (plan : List (Path × Planned)) (e : Entry) → HasPlan (managed_of top) plan u → is_managed (managed_of top) q ≡ true → u q ≡ Some e → IsPlanned plan q
+planned_at u top q plan e has managed is =
+    let s = split_at top q (is_one top q managed) in
+    subst (IsPlanned plan) (sym s.1) (has.only (top, marker_text) s.0 e (here (top, marker_text) []) (sym (ap u s.1) ∙ is))
+
+-- a tree that has the plan is one in which the packages are installed
+pub installed : (u : Tree) (top : Path) (direct : List Pair) (packages : List Package) (listings : List (List Line)) (plan : List (Path × Planned)) → AreEntries (layout_of top direct packages listings) plan → HasPlan (managed_of top) plan u → IsInstalled u top direct packages listings
+installed u top direct packages listings plan entries has = record { plan = plan; entries = entries; has = record { planned = has.planned; only = has.only } }
+
+-- listings of the registry's files are of the packages
+pub of_packages : (r : Option Tree) (packages : List Package) (listings : List (List Line)) → IsStrictlySortedBy (slice_cmp nat_cmp) (map package_id packages) → AreListingsOf r packages listings → AreOfPackages packages listings
+of_packages r packages listings sorted h = record { rising = sorted; each = each packages listings h }
+  where
+    each : (ps : List Package) (ls : List (List Line)) → AreListingsOf r ps ls → AllZip HasListing ps ls
+    each [] [] k = tt
+    each [] (l ∷ ls) k = absurd k
+    each (p ∷ ps) [] k = absurd k
+    each (p ∷ ps) (l ∷ ls) k = (record { listing = k.0.listing; files = k.0.files }, each ps ls k.1)

@@ -8,6 +8,7 @@ use Rattle.pn_cmd.specs.Names.{package_name, lock_name, modules_path}
 use Rattle.pn_cmd.specs.Known.{Space, Declared, Project, Graph, Sources, Fetched, Build, space_of, project_of}
 use Rattle.pn_cmd.specs.Words.{words}
 use Rattle.pn_cmd.specs.Standing.{standing}
+use Rattle.pn_cmd.specs.Scans.{scanned}
 use Rattle.pn_cmd.specs.Spaces.{workspace}
 use Rattle.pn_cmd.specs.Manifests.{manifest}
 use Rattle.pn_cmd.specs.Stores.{store}
@@ -35,8 +36,8 @@ lock_at = step (λ (k : Project). lock_name ∷ k.place) (λ k u. k) standing
 abbrev pub graph_at : Point Project Graph
 graph_at = step (λ (k : Project). k.said) (λ k plain. record { project = k; plain = plain }) graph
 
-abbrev pub modules_at : Point Graph Graph
-modules_at = step (λ (k : Graph). modules_path k.project.place) (λ k u. k) standing
+abbrev pub scanned_at : Point Graph Graph
+scanned_at = step (λ (k : Graph). modules_path k.project.place) (λ k u. k) scanned
 
 abbrev pub listed_at : Point Graph Sources
 listed_at = step (λ (k : Graph). k) (λ k packages. record { graph = k; packages = packages }) listed
@@ -45,11 +46,11 @@ abbrev pub fetched_at : Point Sources Fetched
 fetched_at = step (λ (k : Sources). k) (λ k listings. record { sources = k; listings = listings }) fetched
 
 abbrev pub planned_at : Point Fetched Build
-planned_at = step (λ (k : Fetched). k.sources) (λ k plan. record { fetched = k; plan = plan }) planned
+planned_at = step (λ (k : Fetched). k) (λ k plan. record { fetched = k; plan = plan }) planned
 
 -- from the plain graph on, to its packages
 abbrev pub tree : Point Graph Sources
-tree = then modules_at listed_at
+tree = then scanned_at listed_at
 
 -- from the lockfile on
 abbrev pub goal : Point Project Sources
@@ -64,7 +65,7 @@ abbrev pub from_manifest : Point Space Sources
 from_manifest = then manifest_at from_store
 
 -- The points that only read the trees: the words, the workspace, the manifest, the virtual store's place, no
--- `pnpm-lock.yaml`, the plain graph, no `node_modules`, and the files of its packages.
+-- `pnpm-lock.yaml`, the plain graph, the managed folder, and the files of its packages.
 abbrev pub gathered : Point Inputs Sources
 gathered = then words_at (then workspace_at from_manifest)
 
@@ -92,8 +93,8 @@ to_lock = then to_store lock_at
 abbrev pub to_graph : Point Inputs Graph
 to_graph = then to_lock graph_at
 
-abbrev pub to_modules : Point Inputs Graph
-to_modules = then to_graph modules_at
+abbrev pub to_scanned : Point Inputs Graph
+to_scanned = then to_graph scanned_at
 
 abbrev pub to_fetched : Point Inputs Fetched
 to_fetched = then gathered fetched_at
@@ -110,7 +111,7 @@ pub data StandsAt (i : Inputs) (w : Shown) (s : Status) : Type 0 where
   at_store : After to_manifest i w.trees (λ k. store_at.Cause k w s) → StandsAt i w s
   at_lock : After to_store i w.trees (λ k. lock_at.Cause k w s) → StandsAt i w s
   at_graph : After to_lock i w.trees (λ k. graph_at.Cause k w s) → StandsAt i w s
-  at_modules : After to_graph i w.trees (λ k. modules_at.Cause k w s) → StandsAt i w s
-  at_listed : After to_modules i w.trees (λ k. listed_at.Cause k w s) → StandsAt i w s
+  at_scanned : After to_graph i w.trees (λ k. scanned_at.Cause k w s) → StandsAt i w s
+  at_listed : After to_scanned i w.trees (λ k. listed_at.Cause k w s) → StandsAt i w s
   at_fetched : After gathered i w.trees (λ k. fetched_at.Cause k w s) → StandsAt i w s
   at_planned : After to_fetched i w.trees (λ k. planned_at.Cause k w s) → StandsAt i w s

@@ -10,8 +10,9 @@ use Rattle.pn_storecore.specs.Grew.{Grew}
 use Rattle.pn_store.specs.declared.number.TheConstants.{NUMBERS}
 use Rattle.pn_store.specs.Own.{Made}
 use Rattle.pn_store.specs.Puts.{IsSource}
-use Rattle.pn_layout.specs.declared.packages.Package.{Package}
+use Rattle.pn_package.specs.declared.packages.Package.{Package}
 use Rattle.pn_fetch.specs.Listings.{AreListingsOf}
+use Rattle.pn_fetch.specs.Numbers.{IsStuck as IsStuckFetch}
 use Rattle.pn_fetch.specs.Steps.{IsFetchStep, IsPlaceOf}
 use Rattle.pn_fetch.specs.declared.fault.FetchFault.{FetchFault}
 use Rattle.pn_fetch.specs.declared.fault.FetchFault.TheVariants as fault
@@ -51,6 +52,10 @@ Unfetched packages w s = ⊥
 
 abbrev pub fetched : Point Sources (List (List Entry))
 fetched = record { Finds = λ k t listings. AreListingsOf t.registry k.packages listings; Cause = λ k. Unfetched k.packages }
+
+-- why a number may stay taken where a run is refused: so may that of a fetch, by the refusal that the status tells of
+abbrev pub IsStuck : Option Tree → List Package → Stored → Stored → Status → Type 0
+IsStuck registry packages old new s = (e : FetchFault) × (s ≡ fetch_status e) × IsStuckFetch registry packages old new e
 
 -- What a run did to the store, whatever it answered: its own steps put files of these packages there, and their listings.
 pub record Filled (registry : Option Tree) (packages : List Package) (old new : Stored) : Type 0 where

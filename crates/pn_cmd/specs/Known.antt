@@ -3,9 +3,9 @@ use Rattle.std.specs.Prelude.{List}
 use Rattle.pn_text.specs.Path.{Path}
 use Rattle.pn_manifest.specs.Said.{Said}
 use Rattle.pn_graph.specs.declared.plain.Plain.{Plain}
-use Rattle.pn_layout.specs.declared.packages.Package.{Package}
+use Rattle.pn_package.specs.declared.packages.Package.{Package}
 use Rattle.pn_digest.specs.Listing.{Entry}
-use Rattle.pn_plan.specs.declared.planned.Planned.{Planned}
+use Rattle.pn_digest.specs.declared.planned.Planned.{Planned}
 use Rattle.pn_workspace.specs.declared.search.Workspace.{Workspace}
 
 -- the folder, and its workspace
@@ -41,7 +41,7 @@ pub record Fetched : Type 0 where
 -- the tree that they make
 pub record Build : Type 0 where
   pub fetched : Fetched
-  pub plan : List Planned
+  pub plan : List (Path × Planned)
 
 abbrev pub space_of : Path → Workspace → Space
 space_of place workspace = record { place = place; workspace = workspace }
@@ -61,5 +61,5 @@ sources_of place said plain packages = record { graph = graph_of place said plai
 abbrev pub fetched_of : Path → Said → Plain → List Package → List (List Entry) → Fetched
 fetched_of place said plain packages listings = record { sources = sources_of place said plain packages; listings = listings }
 
-abbrev pub build_of : Path → Said → Plain → List Package → List (List Entry) → List Planned → Build
+abbrev pub build_of : Path → Said → Plain → List Package → List (List Entry) → List (Path × Planned) → Build
 build_of place said plain packages listings plan = record { fetched = fetched_of place said plain packages listings; plan = plan }

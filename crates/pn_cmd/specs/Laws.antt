@@ -1,17 +1,21 @@
 -- Laws of a run, which follow from how it ends.
-use Rattle.std.specs.Prelude.{◌≡◌, ◌∷◌, Some}
+use Rattle.std.specs.Prelude.{◌≡◌, ◌⊎◌, ◌∷◌, ℕ, List, Option, Some, None}
+use Rattle.sha2.specs.Sha512.{sha512}
 use Rattle.serde_json.specs.Data.{Data}
-use Rattle.pn_fs.specs.Tree.{Tree, IsTree}
+use Rattle.pn_text.specs.Path.{Path}
+use Rattle.pn_fs.specs.Tree.{Entry, file, Tree, IsTree}
 use Rattle.pn_manifest.specs.Fields.{said}
+use Rattle.pn_status.specs.declared.status.IntegrityWhy.TheVariants.{Stored as of_store}
 use Rattle.pn_status.specs.declared.status.Which.TheVariants.{Numbers}
 use Rattle.pn_status.specs.declared.status.Status.{Status}
-use Rattle.pn_status.specs.declared.status.Status.TheVariants.{Done, Memory, Limit, DigestClash, ProjectFault, StoreFault, RegistryFault, SinkFault}
+use Rattle.pn_status.specs.declared.status.Status.TheVariants.{Done, Memory, Integrity, Limit, DigestClash, ProjectFault, StoreFault, RegistryFault, SinkFault}
 use Rattle.pn_cmd.specs.World.{World, Inputs, Shown}
 use Rattle.pn_cmd.specs.Points.{Excludes}
 use Rattle.pn_cmd.specs.Names.{package_name}
 use Rattle.pn_cmd.specs.Words.{words}
 use Rattle.pn_cmd.specs.Spaces.{workspace}
 use Rattle.pn_cmd.specs.Standing.{standing}
+use Rattle.pn_cmd.specs.Scans.{scanned}
 use Rattle.pn_cmd.specs.Stores.{store}
 use Rattle.pn_cmd.specs.Manifests.{IsManifest, manifest}
 use Rattle.pn_cmd.specs.Graph.{graph}
@@ -47,6 +51,7 @@ pub record OrderLaw : Type 0 where
   pub words : Excludes words AreTold
   pub workspace : Excludes workspace AreTold
   pub standing : Excludes standing AreTold
+  pub scanned : Excludes scanned AreTold
   pub manifest : Excludes manifest AreTold
   pub store : Excludes store AreTold
   pub graph : Excludes graph AreTold
@@ -59,6 +64,7 @@ abbrev pub IsOwn : Status → Type 0
 IsOwn Memory = ⊥
 IsOwn ProjectFault = ⊥
 IsOwn StoreFault = ⊥
+IsOwn (Integrity (of_store at found)) = ⊥
 IsOwn (DigestClash at) = ⊥
 IsOwn (Limit Numbers n) = ⊥
 IsOwn RegistryFault = ⊥
@@ -70,12 +76,23 @@ pub record Starts (t r : Tree) (w : World) : Type 0 where
   pub project : w.project.tree ≡ Some t
   pub registry : w.registry.tree ≡ Some r
 
--- Two runs end alike: with one answer, with one tree, and where their outputs began alike with the same output.
+-- one entry, or two files whose bytes have one SHA-512
+abbrev pub IsLike : Option Entry → Option Entry → Type 0
+IsLike a b = (a ≡ b) ⊎ ((x : List ℕ) × (y : List ℕ) × (a ≡ Some (file x)) × (b ≡ Some (file y)) × (sha512 x ≡ sha512 y))
+
+-- one tree but for bytes of files that have one SHA-512
+abbrev pub AreAlike : Option Tree → Option Tree → Type 0
+AreAlike None None = Unit {0}
+AreAlike None (Some v) = ⊥
+AreAlike (Some u) None = ⊥
+AreAlike (Some u) (Some v) = (q : Path) → IsLike (u q) (v q)
+
+-- Two runs end alike: with one answer, with one tree by the digests of its files, and where their outputs began alike with the same output.
 pub record EndAlike (old new other now : World) (s v : Status) : Type 0 where
   pub status : s ≡ v
-  pub tree : new.project.tree ≡ now.project.tree
+  pub tree : AreAlike new.project.tree now.project.tree
   pub out : old.out.bytes ≡ other.out.bytes → new.out.bytes ≡ now.out.bytes
 
 -- So do two runs of one start whose answers the trees settle.
 abbrev pub SettledLaw : Type 0
-SettledLaw = (i : Inputs) (t r : Tree) (old new other now : World) (s v : Status) → IsTree r → Starts t r old → Starts t r other → Ends i old new s → Ends i other now v → IsOwn s → IsOwn v → EndAlike old new other now s v
+SettledLaw = (i : Inputs) (t r : Tree) (old new other now : World) (s v : Status) → IsTree t → IsTree r → Starts t r old → Starts t r other → Ends i old new s → Ends i other now v → IsOwn s → IsOwn v → EndAlike old new other now s v

@@ -4,6 +4,7 @@ pub mod Points
 pub mod Entries
 pub mod Words
 pub mod Standing
+pub mod Scans
 pub mod Manifests
 pub mod Spaces
 pub mod Stores
@@ -16,6 +17,7 @@ pub mod Chain
 pub mod Readies
 pub mod Lookup
 pub mod Reports
+pub mod Writings
 pub mod Endings
 pub mod Causes
 pub mod Laws

@@ -2,7 +2,7 @@
 use Rattle.std.specs.Prelude.{◌≡◌, ◌+◌, List}
 use Rattle.pn_text.specs.declared.limits.TheConstants.{ENTRY_LIMIT}
 use Rattle.pn_graph.specs.declared.plain.Plain.{Plain}
-use Rattle.pn_layout.specs.declared.packages.Package.{Package}
+use Rattle.pn_package.specs.declared.packages.Package.{Package}
 use Rattle.pn_collect.specs.CollectFaults.{IsFirstRefused}
 use Rattle.pn_collect.specs.Packages.{ArePackages}
 use Rattle.pn_collect.specs.declared.fault.CollectFault.{CollectFault}

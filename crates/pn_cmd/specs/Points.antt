@@ -9,9 +9,11 @@ use Rattle.pn_storecore.specs.Seen.{Seen as Stored}
 use Rattle.pn_store.specs.declared.number.TheConstants.{NUMBERS}
 use Rattle.pn_store.specs.Claims.{AreTaken}
 use Rattle.pn_store.specs.Reads.{StoodThere}
+use Rattle.pn_repair.specs.RepairFaults.{IsWrongFile}
+use Rattle.pn_status.specs.declared.status.IntegrityWhy.TheVariants.{Stored as of_store}
 use Rattle.pn_status.specs.declared.status.Which.TheVariants.{Numbers}
 use Rattle.pn_status.specs.declared.status.Status.{Status}
-use Rattle.pn_status.specs.declared.status.Status.TheVariants.{Memory, Limit, DigestClash, ProjectFault, StoreFault, RegistryFault, SinkFault}
+use Rattle.pn_status.specs.declared.status.Status.TheVariants.{Memory, Integrity, Limit, DigestClash, ProjectFault, StoreFault, RegistryFault, SinkFault}
 use Rattle.pn_cmd.specs.World.{World, Trees, Shown, shown}
 
 -- What is found at a point, from what is known before it, and why it refuses. A point that asks a device has a cause
@@ -32,12 +34,13 @@ pub record Clashed (registry : Option Tree) (at : List ℕ) (old new : Stored) :
   pub stood : StoodThere Files at stored old new
 
 -- What a refusal rests on, between two states of the outside. Memory is free, and a fault is answered only where that
--- device's count rose. What only the steps of a shared store show is said here too: a clash of digests, and that each of its
--- numbers was found taken.
+-- device's count rose. What only the steps of a shared store show is said here too: a clash of digests, what a digest's address
+-- had in place of its file, and that each of the store's numbers was found taken.
 abbrev pub Refuses : (Shown → Status → Type 0) → World → World → Status → Type 0
 Refuses C old new Memory = Unit {0}
 Refuses C old new ProjectFault = Rose old.project.faults new.project.faults × C (shown old) ProjectFault
 Refuses C old new StoreFault = Rose old.store.faults new.store.faults × C (shown old) StoreFault
+Refuses C old new (Integrity (of_store at found)) = IsWrongFile at found old.store new.store × C (shown old) (Integrity (of_store at found))
 Refuses C old new (DigestClash at) = Clashed old.registry.tree at old.store new.store × C (shown old) (DigestClash at)
 Refuses C old new (Limit Numbers n) = AreTaken NUMBERS old.store new.store × C (shown old) (Limit Numbers n)
 Refuses C old new RegistryFault = Rose old.registry.faults new.registry.faults × C (shown old) RegistryFault
@@ -80,6 +83,7 @@ abbrev pub IsFree : Status → Type 0
 IsFree Memory = Unit {0}
 IsFree ProjectFault = Unit {0}
 IsFree StoreFault = Unit {0}
+IsFree (Integrity (of_store at found)) = Unit {0}
 IsFree (DigestClash at) = Unit {0}
 IsFree (Limit Numbers n) = Unit {0}
 IsFree RegistryFault = Unit {0}

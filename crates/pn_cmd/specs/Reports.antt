@@ -4,7 +4,7 @@ use Rattle.std.specs.Fmt.{decimal}
 use Rattle.pn_text.specs.Causes.{Rose}
 use Rattle.pn_fs.specs.Seen.{Taken}
 use Rattle.pn_status.specs.Told.{TookAll, TookSome}
-use Rattle.pn_layout.specs.declared.packages.Package.{Package}
+use Rattle.pn_package.specs.declared.packages.Package.{Package}
 use Rattle.pn_status.specs.declared.status.Status.{Status}
 use Rattle.pn_status.specs.declared.status.Status.TheVariants.{Done, Memory, SinkFault}
 

@@ -15,6 +15,10 @@ pub record World : Type 0 where
 abbrev pub world : Seen → Seen → Stored → Taken → World
 world project registry store out = record { project = project; registry = registry; store = store; out = out }
 
+-- the same where the store is this
+abbrev pub with_store : World → Stored → World
+with_store w store = world w.project w.registry store w.out
+
 -- what the points of a run read
 pub record Trees : Type 0 where
   pub project : Option Tree

@@ -16,7 +16,8 @@ ghost use Rattle.pn_cmd.specs.Readies.{IsGathered, IsSpaceReady, IsDeclaredReady
 use crate::graph::graph;
 use crate::manifest::read_manifest;
 use crate::packages::packages;
-use crate::ready::Gathered;
+use crate::ready::{Gathered, Scanned};
+use crate::scan::scanned;
 use crate::standing::nothing_stands;
 use crate::store::default_store;
 use crate::words::is_install;
@@ -137,17 +138,19 @@ fn gather_tree<P: ReadFs, R: ReadFs>(
     ensures project { Keeps (P.seen project.old) (P.seen project.new) }
     ensures registry { Keeps (R.seen registry.old) (R.seen registry.new) }
 {
-    let modules = match nothing_stands(alloc, place, "node_modules", project) {
-        Ok(modules) => modules,
+    let scanned = match scanned(alloc, place, project) {
+        Ok(scanned) => scanned,
         Err(status) => return Err(status),
     };
     let collected = match packages(alloc, plain, registry) {
         Ok(collected) => collected,
         Err(status) => return Err(status),
     };
+    let Scanned { modules, scan } = scanned;
     let Collected { direct, packages } = collected;
     Ok(Gathered {
         modules,
+        scan,
         direct,
         packages,
     })

@@ -22,8 +22,9 @@ pub fn order_law()
     ensures { OrderLaw }
 {}
 
-/// Two runs of one start, of told trees, that end neither for want of memory nor for a fault answer one status and leave
-/// one tree.
+/// Two runs of one start, of told trees, answer one status and leave one tree by the digests of its files, where neither ends
+/// for want of memory, for a fault, or for what other installers did to the store: a clash of digests, another file at a
+/// digest's address, or its numbers all taken.
 pub fn settled_law()
     ensures { SettledLaw }
 {}

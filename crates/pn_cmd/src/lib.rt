@@ -4,6 +4,8 @@
 //! writing nothing of the project differs; while it is written only what lies in `node_modules` does.
 #![tactic(auto)]
 
+#[cfg(test)]
+mod again_tests;
 mod entry;
 #[cfg(test)]
 mod fault_tests;
@@ -19,6 +21,7 @@ mod prepare;
 mod ready;
 #[cfg(test)]
 mod refusal_tests;
+mod scan;
 mod standing;
 mod store;
 #[cfg(test)]
@@ -32,6 +35,6 @@ mod write;
 
 pub use laws::{cause_law, lookup_law, order_law, point_law, settled_law};
 pub use pn_manifest::ManifestWhy;
-pub use pn_status::{FileWhy, Status, Which, tell};
+pub use pn_status::{FileWhy, IntegrityWhy, Status, Which, tell};
 pub use pn_workspace::WorkspaceWhy;
 pub use top::run;

@@ -1,20 +1,21 @@
 // The points after what the trees say: the store and the plan.
-ghost use Rattle.std.specs.Prelude.{◌≡◌, OnOk, OnErr, IfOk, IfErr, IfSome};
+ghost use Rattle.std.specs.Prelude.{◌≡◌, OnOk, IfOk, IfErr, IfSome};
 ghost use Rattle.std.specs.List.{All};
 ghost use Rattle.std.specs.Option.{ForSome};
 ghost use Rattle.pn_fs.specs.Seen.{Seen, Taken, Keeps};
 ghost use Rattle.pn_manifest.specs.Said.{Said};
 ghost use Rattle.pn_graph.specs.declared.plain.Plain.{Plain};
-ghost use Rattle.pn_layout.specs.Sound.{FilesStand};
+ghost use Rattle.pn_package.specs.Sound.{FilesStand};
 ghost use Rattle.pn_collect.specs.Outline.{HaveFiles, direct_of};
 ghost use Rattle.pn_collect.specs.Packages.{ArePackages};
 ghost use Rattle.pn_fetch.specs.Numbers.{IsReleased, LeavesOne};
 ghost use Rattle.pn_fetch.specs.Listings.{AreListingsOf, CanList, IsStored};
+ghost use Rattle.pn_fetch.specs.Puts.{WasListed, WasPut, places};
 ghost use Rattle.pn_cmd.specs.World.{trees, world};
 ghost use Rattle.pn_cmd.specs.Points.{Refuses};
 ghost use Rattle.pn_cmd.specs.Names.{modules_path};
 ghost use Rattle.pn_cmd.specs.Known.{sources_of, build_of};
-ghost use Rattle.pn_cmd.specs.Fetches.{Filled, Unfetched, fetch_status};
+ghost use Rattle.pn_cmd.specs.Fetches.{Filled, IsStuck, Unfetched, fetch_status};
 ghost use Rattle.pn_cmd.specs.Chain.{prepared};
 
 use crate::plan::plan;
@@ -22,7 +23,7 @@ use crate::ready::{Gathered, Ready};
 use pn_digest::Listing;
 use pn_fetch::{FetchFault, fetch};
 use pn_fs::ReadFs;
-use pn_layout::Package;
+use pn_package::Package;
 use pn_status::{Status, Which};
 use pn_store::NUMBERS;
 use pn_storecore::StoreDisk;
@@ -44,7 +45,9 @@ pub fn prepare<R: ReadFs, D: StoreDisk>(
     ensures stored { IfOk result (λ r. All (IsStored (D.seen store.new)) r.listings.items) }
     ensures filled { Filled (R.seen registry.old).tree gathered.now.packages.items (D.seen store.old) (D.seen store.new) }
     ensures released { OnOk result (IsReleased (D.seen store.old) (D.seen store.new)) }
-    ensures left { OnErr result (LeavesOne (D.seen store.old) (D.seen store.new)) }
+    ensures put { OnOk result (All (WasPut (R.seen registry.old).tree (D.seen store.old) (D.seen store.new)) (places gathered.now.packages.items)) }
+    ensures listed { IfOk result (λ r. All (WasListed (D.seen store.old) (D.seen store.new)) r.listings.items) }
+    ensures left { IfErr result (λ s. LeavesOne (IsStuck (R.seen registry.old).tree gathered.now.packages.items (D.seen store.old) (D.seen store.new) s) (D.seen store.old) (D.seen store.new)) }
     ensures registry { Keeps (R.seen registry.old) (R.seen registry.new) }
 {
     let packages = gathered.packages.as_slice();
@@ -52,7 +55,14 @@ pub fn prepare<R: ReadFs, D: StoreDisk>(
         Ok(listings) => listings,
         Err(status) => return Err(status),
     };
-    match plan(alloc, place, &gathered.modules, &gathered.direct, packages) {
+    match plan(
+        alloc,
+        place,
+        &gathered.modules,
+        &gathered.direct,
+        packages,
+        listings.as_slice(),
+    ) {
         Ok(plan) => Ok(Ready { listings, plan }),
         Err(status) => Err(status),
     }
@@ -73,7 +83,9 @@ fn fetched<R: ReadFs, D: StoreDisk>(
     ensures stored { IfOk result (λ v. All (IsStored (D.seen store.new)) v.items) }
     ensures filled { Filled (R.seen registry.old).tree packages.now (D.seen store.old) (D.seen store.new) }
     ensures released { OnOk result (IsReleased (D.seen store.old) (D.seen store.new)) }
-    ensures left { OnErr result (LeavesOne (D.seen store.old) (D.seen store.new)) }
+    ensures put { OnOk result (All (WasPut (R.seen registry.old).tree (D.seen store.old) (D.seen store.new)) (places packages.now)) }
+    ensures listed { IfOk result (λ v. All (WasListed (D.seen store.old) (D.seen store.new)) v.items) }
+    ensures left { IfErr result (λ s. LeavesOne (IsStuck (R.seen registry.old).tree packages.now (D.seen store.old) (D.seen store.new) s) (D.seen store.old) (D.seen store.new)) }
     ensures registry { Keeps (R.seen registry.old) (R.seen registry.new) }
 {
     match fetch(alloc, store, registry, packages) {

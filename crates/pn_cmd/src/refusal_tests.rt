@@ -8,7 +8,7 @@ use std::test::Fail;
 const LEAF: &str = r#"/a/1.0.0/package.json {"name":"a","version":"1.0.0"}"#;
 
 // What is refused: the words, the project's files and the registry's, and then the exit status and the text.
-const REFUSALS: [(&str, &str, &str, u8, &str); 31] = [
+const REFUSALS: [(&str, &str, &str, u8, &str); 32] = [
     ("", PROJECT, LEAF, 2, "usage: install"),
     ("update", PROJECT, LEAF, 2, "usage: install"),
     ("install --foo", PROJECT, LEAF, 2, "usage: install"),
@@ -156,8 +156,15 @@ const REFUSALS: [(&str, &str, &str, u8, &str); 31] = [
         "install",
         "/w/package.json {}\n/w/node_modules/x x",
         LEAF,
-        30,
-        "not yet: /w/node_modules",
+        10,
+        "foreign: /w/node_modules",
+    ),
+    (
+        "install",
+        "/w/package.json {}\n/w/node_modules x",
+        LEAF,
+        10,
+        "foreign: /w/node_modules",
     ),
     (
         "install",

@@ -1,6 +1,6 @@
 // What runs leave in a store, also beside another installer.
 
-use crate::fixtures::{A, B, PROJECT, fill, run_on};
+use crate::fixtures::{A, B, PROJECT, fill, run_on, shown};
 use pn_digest::{Digest, Integrity};
 use pn_fs::{SureFs, SureSink};
 use pn_memstore::{MemStore, SureStore};
@@ -24,19 +24,21 @@ fn install<D: StoreDisk>(alloc: Global, store: &mut D) -> Result<Outcome, Fail> 
     let mut registry = SureFs::new(alloc);
     fill(alloc, &mut registry, A)?;
     fill(alloc, &mut registry, B)?;
+    let code = install_in(alloc, &mut project, &mut registry, store)?;
+    left(store, code)
+}
+
+fn install_in<D: StoreDisk>(
+    alloc: Global,
+    project: &mut SureFs,
+    registry: &mut SureFs,
+    store: &mut D,
+) -> Result<u8, Fail> {
     let mut out = SureSink::new(alloc);
     let mut err = SureSink::new(alloc);
-    let code = run_on(
-        alloc,
-        "/w",
-        "install",
-        &mut project,
-        &mut registry,
-        store,
-        &mut out,
-        &mut err,
-    )?;
-    left(store, code)
+    run_on(
+        alloc, "/w", "install", project, registry, store, &mut out, &mut err,
+    )
 }
 
 // What the store has.
@@ -140,6 +142,41 @@ fn shared(alloc: Global, count: usize, apart: u64) -> Result<MemStore, Fail> {
         call = call.saturating_add(apart);
     }
     Ok(MemStore::new(alloc, 1, others, Vec::new(alloc)))
+}
+
+// A run over a store whose k-th call fails: the status, whether the managed folder stands, and the status of a second run.
+fn with_fault(alloc: Global, k: u64) -> Result<(u8, bool, u8), Fail> {
+    let mut project = SureFs::new(alloc);
+    fill(alloc, &mut project, PROJECT)?;
+    let mut registry = SureFs::new(alloc);
+    fill(alloc, &mut registry, A)?;
+    fill(alloc, &mut registry, B)?;
+    let mut store = MemStore::new(alloc, 1, Vec::new(alloc), vec![in alloc; k]?);
+    let code = install_in(alloc, &mut project, &mut registry, &mut store)?;
+    let found = shown(alloc, &mut project, "/w/node_modules")?;
+    let stands = found.as_str() == "a folder";
+    let again = install_in(alloc, &mut project, &mut registry, &mut store)?;
+    Ok((code, stands, again))
+}
+
+#[test]
+fn each_failed_call_of_the_store_is_told(rt: HostRuntime) -> Result<(), Fail> {
+    let alloc = rt.alloc();
+    let mut fetched = 0u64;
+    let mut written = 0u64;
+    for k in 0..200u64 {
+        match with_fault(alloc, k)? {
+            (21, false, 0) => fetched = fetched.saturating_add(1),
+            (21, true, 0) => written = written.saturating_add(1),
+            // the call is one of the second run's, or none
+            (0, true, 0 | 21) => {}
+            _ => return Err(Fail::from("another status")),
+        }
+    }
+    // the calls that put four files and two listings, and those that read four files for the tree
+    assert!(rt; fetched > 30);
+    assert!(rt; written > 3);
+    Ok(())
 }
 
 #[test]

@@ -10,7 +10,7 @@ use crate::prepare::prepare;
 use crate::write::{tell_report, write};
 use pn_fs::{Fs, ReadFs, Sink};
 use pn_status::{Status, tell};
-use pn_storecore::StoreDisk;
+use pn_storecore::{StoreDisk, grew_law};
 use pn_text::AbsPath;
 use std::alloc::Global;
 
@@ -45,6 +45,7 @@ fn install<P: Fs, R: ReadFs, D: StoreDisk, O: Sink>(
 ) -> Status
     ensures { Ends (inputs (map string_bytes words.now) place.now) (world (P.seen project.old) (R.seen registry.old) (D.seen store.old) (O.seen out.old)) (world (P.seen project.new) (R.seen registry.new) (D.seen store.new) (O.seen out.new)) result }
 {
+    grew_law();
     let gathered = match gather(alloc, words, place, project, registry) {
         Ok(gathered) => gathered,
         Err(status) => return status,
@@ -57,8 +58,7 @@ fn install<P: Fs, R: ReadFs, D: StoreDisk, O: Sink>(
         Ok(ready) => ready,
         Err(status) => return status,
     };
-    let _ = ready.plan.as_slice(); // its paths rise
-    if let Err(status) = write(alloc, &ready.plan, project, registry) {
+    if let Err(status) = write(alloc, &ready.plan, &gathered.scan, project, store) {
         return status;
     }
     tell_report(report.as_str(), out)

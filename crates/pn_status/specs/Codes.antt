@@ -1,7 +1,7 @@
 -- The exit status of each way to end.
 use Rattle.std.specs.Prelude.{ℕ}
 use Rattle.pn_status.specs.declared.status.Status.{Status}
-use Rattle.pn_status.specs.declared.status.Status.TheVariants.{Done, Memory, Usage, Manifest, NoVersion, Unsupported, Limit, Bundled, DigestClash, ProjectFault, StoreFault, RegistryFault, SinkFault, NotYet}
+use Rattle.pn_status.specs.declared.status.Status.TheVariants.{Done, Memory, Usage, Manifest, NoVersion, Unsupported, Integrity, Foreign, Limit, Bundled, DigestClash, ProjectFault, StoreFault, RegistryFault, SinkFault, NotYet}
 
 abbrev pub code_of : Status → ℕ
 code_of Done = 0
@@ -10,6 +10,8 @@ code_of Usage = 2
 code_of (Manifest path why) = 3
 code_of (NoVersion edge) = 6
 code_of (Unsupported edge) = 7
+code_of (Integrity why) = 9
+code_of (Foreign path) = 10
 code_of (Limit which n) = 11
 code_of (Bundled id path) = 13
 code_of (DigestClash at) = 14

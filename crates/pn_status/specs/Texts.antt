@@ -1,23 +1,25 @@
 -- What is told of a status.
-use Rattle.std.specs.Prelude.{◌≡◌, ◌≢◌, ◌⊎◌, ℕ, List, [], ◌∷◌, ◌++◌, codes}
+use Rattle.std.specs.Prelude.{◌≡◌, ◌≢◌, ◌⊎◌, ℕ, List, [], ◌∷◌, ◌++◌, Option, Some, None, codes}
 use Rattle.std.specs.Fmt.{decimal}
 use Rattle.hex.specs.Hex.{encode_lower}
 use Rattle.pn_text.specs.Causes.{Rose}
 use Rattle.pn_text.specs.declared.ids.Edge.{Edge}
 use Rattle.pn_fs.specs.Seen.{Taken}
 use Rattle.pn_fs.specs.Takes.{told_more}
-use Rattle.pn_text.specs.Path.{Path, text_below}
+use Rattle.pn_text.specs.Path.{Path, path_text, text_below}
 use Rattle.pn_manifest.specs.declared.fault.ManifestWhy.{ManifestWhy}
 use Rattle.pn_manifest.specs.declared.fault.ManifestWhy.TheVariants.{Missing, NotJson, BadField}
 use Rattle.pn_status.specs.declared.status.Which.{Which}
 use Rattle.pn_status.specs.declared.status.Which.TheVariants.{Packages, File, Text, Path as PathLength, Entries, Numbers}
 use Rattle.pn_status.specs.declared.status.FileWhy.{FileWhy}
+use Rattle.pn_status.specs.declared.status.IntegrityWhy.{IntegrityWhy}
+use Rattle.pn_status.specs.declared.status.IntegrityWhy.TheVariants.{Stored}
 use Rattle.pn_yaml.specs.WhyTexts.{why_text as yaml_text}
 use Rattle.pn_workspace.specs.declared.fault.WorkspaceWhy.{WorkspaceWhy}
 use Rattle.pn_workspace.specs.declared.fault.WorkspaceWhy.TheVariants.{NotUtf8, TooDeep, Line, BadKey}
 use Rattle.pn_status.specs.declared.status.FileWhy.TheVariants.{Manifest as of_manifest, Workspace as of_workspace, BadTags}
 use Rattle.pn_status.specs.declared.status.Status.{Status}
-use Rattle.pn_status.specs.declared.status.Status.TheVariants.{Done, Memory, Usage, Manifest, NoVersion, Unsupported, Limit, Bundled, DigestClash, ProjectFault, StoreFault, RegistryFault, SinkFault, NotYet}
+use Rattle.pn_status.specs.declared.status.Status.TheVariants.{Done, Memory, Usage, Manifest, NoVersion, Unsupported, Integrity, Foreign, Limit, Bundled, DigestClash, ProjectFault, StoreFault, RegistryFault, SinkFault, NotYet}
 use Rattle.pn_status.specs.Told.{TookSome}
 
 abbrev pub why_text : ManifestWhy → List ℕ
@@ -57,6 +59,14 @@ behind_first (b ∷ bs) = bs
 abbrev pub tail_text : Path → List ℕ
 tail_text q = behind_first (text_below q)
 
+-- the digest that was found, or that there is none
+abbrev pub found_text : Option (List ℕ) → List ℕ
+found_text None = codes "absent"
+found_text (Some d) = encode_lower d
+
+abbrev pub integrity_text : IntegrityWhy → List ℕ
+integrity_text (Stored at found) = codes "stored " ++ encode_lower at ++ codes " is " ++ found_text found ++ codes "\n"
+
 -- the line of each refusal
 abbrev pub status_line : Status → List ℕ
 status_line Done = []
@@ -65,6 +75,8 @@ status_line Usage = codes "pnpm-rs: usage: install\n"
 status_line (Manifest path why) = codes "pnpm-rs: manifest: " ++ path ++ codes ": " ++ file_text why
 status_line (NoVersion edge) = codes "pnpm-rs: no version: " ++ edge_text (codes " needs ") edge
 status_line (Unsupported edge) = codes "pnpm-rs: unsupported: " ++ edge_text (codes " has ") edge
+status_line (Integrity why) = codes "pnpm-rs: integrity: " ++ integrity_text why
+status_line (Foreign path) = codes "pnpm-rs: foreign: " ++ path_text path ++ codes "\n"
 status_line (Limit which n) = codes "pnpm-rs: limit: " ++ which_text which ++ decimal n ++ codes "\n"
 status_line (Bundled id path) = codes "pnpm-rs: bundled: " ++ id ++ codes " " ++ tail_text path ++ codes "\n"
 status_line (DigestClash at) = codes "pnpm-rs: digest clash: " ++ encode_lower at ++ codes "\n"

@@ -8,5 +8,5 @@ mod text;
 
 pub use pn_manifest::ManifestWhy;
 pub use pn_workspace::WorkspaceWhy;
-pub use status::{FileWhy, Status, Which};
+pub use status::{FileWhy, IntegrityWhy, Status, Which};
 pub use text::tell;

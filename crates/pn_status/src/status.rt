@@ -4,7 +4,7 @@ ghost use Rattle.pn_status.specs.Codes.{code_of};
 
 use pn_digest::Digest;
 use pn_manifest::ManifestWhy;
-use pn_text::{Edge, PkgId, RelPath, Text};
+use pn_text::{AbsPath, Edge, PkgId, RelPath, Text};
 use pn_workspace::WorkspaceWhy;
 use thiserror::Error;
 
@@ -17,6 +17,15 @@ pub enum FileWhy {
     Workspace(WorkspaceWhy),
     #[error("bad tags")]
     BadTags,
+}
+
+/// Which integrity isn't the one that is named.
+#[derive(Clone, Copy, Debug, Error)]
+pub enum IntegrityWhy {
+    /// What was read at the address of a digest in the store has the other digest. There is none where nothing stood there,
+    /// or a file past 268,435,456 bytes.
+    #[error("what is stored at a digest has another one")]
+    Stored(Digest, Option<Digest>),
 }
 
 /// How a run ends: done, or the first refusal in the order of an install.
@@ -34,6 +43,11 @@ pub enum Status {
     NoVersion(Edge),
     /// The edge's specifier has none of the forms.
     Unsupported(Edge),
+    /// What is read has another integrity than is named.
+    Integrity(IntegrityWhy),
+    /// What stands at that path isn't this installer's: an entry on the way to a managed folder that is no folder, or a managed
+    /// folder that isn't empty and has no marker.
+    Foreign(AbsPath),
     /// The count is above the stated number.
     Limit(Which, u64),
     /// That path of the package has a part `node_modules`.
@@ -53,7 +67,7 @@ pub enum Status {
 }
 
 /// What is limited: 16,384 packages, 268,435,456 bytes of a package's file, 16,777,216 bytes of a manifest or a workspace
-/// file, 4,096 bytes of a path, 4,194,304 entries of a package or of a name's folder,
+/// file, 4,096 bytes of a path, 4,194,304 entries of a package, of a name's folder or below the managed folders,
 /// 65,536 numbers of installers of one store.
 #[derive(Clone, Copy, Debug, PartialEq, Eq)]
 pub enum Which {
@@ -77,6 +91,8 @@ impl Status {
             Status::Manifest(_, _) => 3,
             Status::NoVersion(_) => 6,
             Status::Unsupported(_) => 7,
+            Status::Integrity(_) => 9,
+            Status::Foreign(_) => 10,
             Status::Limit(_, _) => 11,
             Status::Bundled(_, _) => 13,
             Status::DigestClash(_) => 14,

@@ -2,15 +2,16 @@
 ghost use Rattle.std.specs.Prelude.{◌≡◌, ◌⊎◌, IfOk, string_bytes, codes, true, false, ◌++◌};
 ghost use Rattle.std.specs.Fmt.{decimal};
 ghost use Rattle.hex.specs.Hex.{encode_lower};
+ghost use Rattle.pn_text.specs.Path.{path_text};
 ghost use Rattle.pn_status.specs.Told.{TookSome};
 ghost use Rattle.pn_yaml.specs.WhyTexts.{why_text as yaml_text};
-ghost use Rattle.pn_status.specs.Texts.{status_line, why_text, space_text, file_text, which_text, edge_text, tail_text, TellsLine, Tells, OrMemory};
+ghost use Rattle.pn_status.specs.Texts.{status_line, why_text, space_text, file_text, which_text, edge_text, tail_text, found_text, integrity_text, TellsLine, Tells, OrMemory};
 
-use crate::status::{FileWhy, Status, Which};
+use crate::status::{FileWhy, IntegrityWhy, Status, Which};
 use pn_digest::Digest;
 use pn_fs::Sink;
 use pn_manifest::ManifestWhy;
-use pn_text::{DevFault, Edge, RelPath};
+use pn_text::{AbsPath, DevFault, Edge, RelPath};
 use pn_workspace::WorkspaceWhy;
 use pn_yaml::Why;
 use std::alloc::{AllocError, Global};
@@ -56,6 +57,8 @@ fn line_of(alloc: Global, status: &Status) -> Result<String, AllocError>
         Status::Manifest(path, why) => manifest_line(alloc, path.as_str(), why),
         Status::NoVersion(edge) => edge_line(alloc, "pnpm-rs: no version: ", " needs ", edge),
         Status::Unsupported(edge) => edge_line(alloc, "pnpm-rs: unsupported: ", " has ", edge),
+        Status::Integrity(why) => integrity_line(alloc, why),
+        Status::Foreign(path) => foreign_line(alloc, path),
         Status::Limit(which, count) => limit_line(alloc, *which, *count),
         Status::Bundled(id, path) => bundled_line(alloc, id.as_str(), path),
         Status::DigestClash(at) => clash_line(alloc, at),
@@ -182,6 +185,54 @@ fn bundled_line(alloc: Global, id: &str, path: &RelPath) -> Result<String, Alloc
     line.push_str(id)?;
     line.push_str(" ")?;
     line.push_str(path)?;
+    line.push_str("\n")?;
+    Ok(line)
+}
+
+fn integrity_line(alloc: Global, why: &IntegrityWhy) -> Result<String, AllocError>
+    ensures { IfOk result (λ s. string_bytes s ≡ codes "pnpm-rs: integrity: " ++ integrity_text why.now) }
+{
+    match why {
+        IntegrityWhy::Stored(at, found) => stored_line(alloc, at, found),
+    }
+}
+
+fn stored_line(alloc: Global, at: &Digest, found: &Option<Digest>) -> Result<String, AllocError>
+    ensures { IfOk result (λ s. string_bytes s ≡ codes "pnpm-rs: integrity: " ++ integrity_text (IntegrityWhy.Stored at.now found.now)) }
+{
+    let at = hex_of(alloc, at)?;
+    let found = found_line(alloc, found)?;
+    let mut line = String::from_str(alloc, "pnpm-rs: integrity: stored ")?;
+    line.push_str(at.as_str())?;
+    line.push_str(" is ")?;
+    line.push_str(found.as_str())?;
+    line.push_str("\n")?;
+    Ok(line)
+}
+
+fn found_line(alloc: Global, found: &Option<Digest>) -> Result<String, AllocError>
+    ensures { IfOk result (λ s. string_bytes s ≡ found_text found.now) }
+{
+    match found {
+        Some(digest) => hex_of(alloc, digest),
+        None => String::from_str(alloc, "absent"),
+    }
+}
+
+fn hex_of(alloc: Global, digest: &Digest) -> Result<String, AllocError>
+    ensures { IfOk result (λ s. string_bytes s ≡ encode_lower digest.now) }
+{
+    match digest.hex(alloc) {
+        Ok(hex) => String::from_str(alloc, hex.as_str()),
+        Err(_) => Err(AllocError),
+    }
+}
+
+fn foreign_line(alloc: Global, path: &AbsPath) -> Result<String, AllocError>
+    ensures { IfOk result (λ s. string_bytes s ≡ codes "pnpm-rs: foreign: " ++ path_text path.now ++ codes "\n") }
+{
+    let mut line = String::from_str(alloc, "pnpm-rs: foreign: ")?;
+    line.push_str(path.as_str())?;
     line.push_str("\n")?;
     Ok(line)
 }
