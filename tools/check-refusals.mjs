@@ -1,5 +1,5 @@
 // Runs `pnpm-rs install` on small projects, most of which are refused, and compares the status, what is printed, and
-// what stands in the project's folder.
+// what stands in the project's folder: after an install nothing else in `node_modules` than what is installed.
 // Usage: node tools/check-refusals.mjs [PROGRAM]
 import { spawnSync } from 'node:child_process';
 import { closeSync, openSync, truncateSync } from 'node:fs';
@@ -44,6 +44,8 @@ const make = ({ project: own, registry: packages, at = 'pnpm-rs-registry', env, 
   return { project, registry, env: named === undefined ? {} : { PNPM_RS_REGISTRY: named } };
 };
 
+const isOutside = ([path]) => path.split('/')[0] !== 'node_modules';
+
 // What is to be printed, and what is to stand: the installed project where the writing comes to its end.
 const expected = ({ status, text }, { project, registry }) => {
   const before = entriesOf(project);
@@ -51,7 +53,7 @@ const expected = ({ status, text }, { project, registry }) => {
   if (status !== 0 && status !== 23) return { out: '', err, tree: before };
   const reached = choicesIn(carriedSemver().semver, registry).reached(project);
   const out = status === 0 ? report(reached.packages) : '';
-  return { out, err, tree: new Map([...before, ...installedTree(reached)]) };
+  return { out, err, tree: new Map([...[...before].filter(isOutside), ...installedTree(reached)]) };
 };
 
 const told = JSON.stringify;

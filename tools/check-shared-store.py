@@ -1,11 +1,11 @@
 #!/usr/bin/env python3
 """Installs one project by 8 processes at once over one store, some of which are killed, and checks what is left.
 
-Each process installs into a folder of its own, from one registry. Those that weren't killed have to leave one tree, and one
-more install has to succeed behind them. Each file and each listing in the store has to have its address as its SHA-512, each
+Each process installs into a folder of its own, from one registry. Those that weren't killed have to leave one tree, and so
+has an install into the folder of one that was, and one more behind them. Each file and each listing in the store has to have its address as its SHA-512, each
 package's listing has to be there with each file that it names, and no number is left but those of processes that were killed.
 At last stored files are damaged, and one more install has to repair them.
-Usage: tools/check-shared-store.py [PROGRAM]
+Usage: tools/check-shared-store.py [PROGRAM [ROUNDS]]
 """
 import hashlib
 import json
@@ -46,7 +46,7 @@ def make_registry(folder, rnd):
 
 
 def start(program, project, registry, store):
-    os.makedirs(project)
+    os.makedirs(project, exist_ok=True)
     with open(os.path.join(project, "package.json"), "w") as file:
         file.write('{"dependencies": {"p0": "^1.0.0"}}')
     environment = dict(os.environ, PNPM_RS_STORE=store, PNPM_RS_REGISTRY=registry)
@@ -86,18 +86,30 @@ def store_wrong(store, texts, killed):
     return wrong
 
 
+def kill(process, project, rnd, in_tree):
+    """Kills an installer after a moment: of its own, or once it has begun its tree."""
+    begun = os.path.join(project, "node_modules", ".pnpm")
+    while in_tree and process.poll() is None and not os.path.exists(begun):
+        time.sleep(0.001)
+    time.sleep(rnd.random() * (0.01 if in_tree else 0.1))
+    process.kill()
+    process.communicate()
+
+
 def one_round(program, folder, registry, texts, rnd, kills):
     wrong = []
     store = os.path.join(folder, "store")
     projects = [os.path.join(folder, f"project-{i}") for i in range(INSTALLERS)]
     running = [start(program, project, registry, store) for project in projects]
     killed = running[:3] if kills else []
-    for process in killed:
-        time.sleep(rnd.random() * 0.1)
-        process.kill()
-        process.communicate()
+    for i, process in enumerate(killed):
+        kill(process, projects[i], rnd, i == 2)
     for process in running[len(killed):]:
         wrong += ended_wrong(process)
+    for project in projects[:len(killed)]:
+        wrong += ended_wrong(start(program, project, registry, store))
+        if tree_of(project) != tree_of(projects[-1]):
+            wrong.append("an install over what a killed one left differs")
     for again in ("more", "last"):
         project = os.path.join(folder, again)
         wrong += ended_wrong(start(program, project, registry, store))
@@ -111,19 +123,20 @@ def one_round(program, folder, registry, texts, rnd, kills):
 
 def main():
     program = os.path.abspath(sys.argv[1]) if len(sys.argv) > 1 else os.path.join(TOP, "pnpm-rs")
+    rounds = int(sys.argv[2]) if len(sys.argv) > 2 else ROUNDS
     rnd = random.Random(1)
     wrong = []
     with tempfile.TemporaryDirectory() as top:
         registry = os.path.join(top, "registry")
         texts = make_registry(registry, rnd)
-        for i in range(ROUNDS):
+        for i in range(rounds):
             wrong += one_round(program, os.path.join(top, "round"), registry, texts, rnd, i % 2 == 1)
     for line in wrong[:10]:
         print(line)
     if wrong:
         print(f"failed: the store: {len(wrong)} lines differ")
         return 1
-    print(f"passed: the store: {ROUNDS} rounds of {INSTALLERS} installs at once over one store, some killed, some files damaged")
+    print(f"passed: the store: {rounds} rounds of {INSTALLERS} installs at once over one store, some killed, some files damaged")
     return 0
 
 

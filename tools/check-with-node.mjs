@@ -14,16 +14,22 @@ import { part } from './lib/parts.mjs';
 import { built, program, report, run, top } from './lib/program.mjs';
 import { differences, entriesOf, put, temporary } from './lib/trees.mjs';
 
-// Installs the project, and compares the report, the tree, and what else the project's folder has.
-const install = (project, registry, env) => {
-  const reached = choicesIn(carriedSemver().semver, registry).reached(project);
-  const wanted = new Map([...entriesOf(project), ...installedTree(reached)]);
+// Installs the project once, and compares the report, the tree, and what else the project's folder has.
+const installOnce = (project, env, wanted, wantedOut) => {
   const { status, out, err } = run(program, ['install'], { cwd: project, env });
   const problems = differences(wanted, entriesOf(project));
-  const wantedOut = report(reached.packages);
   if (status !== 0) problems.push(`status ${status}, not 0`);
   if (out !== wantedOut) problems.push(`the report is ${JSON.stringify(out)}, not ${JSON.stringify(wantedOut)}`);
   if (err !== '') problems.push(`standard error has ${JSON.stringify(err)}`);
+  return problems;
+};
+
+// Installs the project twice, and compares what each install prints and leaves.
+const install = (project, registry, env) => {
+  const reached = choicesIn(carriedSemver().semver, registry).reached(project);
+  const wanted = new Map([...entriesOf(project), ...installedTree(reached)]);
+  const wantedOut = report(reached.packages);
+  const problems = [1, 2].flatMap(() => installOnce(project, env, wanted, wantedOut));
   return { reached, problems };
 };
 

@@ -70,6 +70,27 @@ const entries = [
   done('a folder called node_modules without a file', needsA, { ...packA(), 'a/1.0.0/node_modules/b': null, 'a/1.0.0/lib/node_modules/c': { link: '../c' } }),
 ];
 
+const marked = { ...needsA, 'node_modules/.pnpm-rs': 'pnpm-rs 1\n' };
+const home = 'node_modules/.pnpm/a@1.0.0/node_modules/a';
+
+// What stands in `node_modules` before.
+const standing = [
+  done('an empty node_modules', { ...needsA, node_modules: null }, packA()),
+  done('a marker that is empty', { ...needsA, 'node_modules/.pnpm-rs': '', 'node_modules/b': 'a file' }, packA()),
+  done('a marker that is half written', { ...needsA, 'node_modules/.pnpm-rs': 'pnpm' }, packA()),
+  done('what is left over', {
+    ...marked, 'node_modules/b/lib/c.js': '', 'node_modules/.bin/b': { link: '../b' }, [`${home}/lib/more.js`]: '', [`${home}/node_modules`]: null,
+    'node_modules/.pnpm/b@1.0.0/node_modules/b/index.js': '',
+  }, packA()),
+  done('files of other bytes and other lengths', { ...marked, [`${home}/index.js`]: '// b\n', [`${home}/package.json`]: '{}' }, packA()),
+  done('a link that leads elsewhere', { ...marked, 'node_modules/a': { link: '.pnpm' } }, packA()),
+  done('entries of other kinds', {
+    ...marked, [`${home}/index.js/deep/x`]: '', [`${home}/package.json`]: { link: 'index.js' }, 'node_modules/a/index.js': '',
+  }, packA()),
+  done('a file for the virtual store', { ...marked, 'node_modules/.pnpm': 'a file' }, packA()),
+  done('packages that nothing asks for any more', { ...marked, ...project(), [`${home}/index.js`]: '', 'node_modules/a': { link: '.pnpm' } }, {}),
+];
+
 const plain = [
   done('an empty manifest', { 'package.json': '{}' }, {}),
   done('empty fields', needs(null, empty), {}),
@@ -85,4 +106,4 @@ const plain = [
   row('an output that is full', 23, 'output fault', { project: needsA, registry: packA(), output: '/dev/full' }),
 ];
 
-export const installs = [plain, rows, maps, entries].flat();
+export const installs = [plain, rows, maps, entries, standing].flat();

@@ -27,6 +27,9 @@ const bundled = (title, text, own, registry) => row(title, 13, `bundled: ${text}
 
 const notYet = (title, text, own, registry = packA()) => row(title, 30, `not yet: ${text}`, { project: own, registry });
 
+const foreign = (title, own, registry = packA()) =>
+  row(title, 10, 'foreign: PROJECT/node_modules', { project: { ...needsA, ...own }, registry });
+
 const stands = (kind, path, entry) => notYet(`a ${kind} ${path}`, `PROJECT/${path}`, { ...needsA, [path]: entry });
 
 const usages = [
@@ -178,9 +181,6 @@ const longName = 'b'.repeat(115);
 
 const unbuilt = [
   stands('file', 'pnpm-lock.yaml', ''),
-  stands('folder', 'node_modules', null),
-  stands('file', 'node_modules', 'a file'),
-  stands('link', 'node_modules', { link: 'nowhere' }),
   ...['workspace:*', 'workspace:^', 'workspace:', 'workspace:b@~1.0.0', 'catalog:', 'catalog:x'].map((text) =>
     notYet(`the specifier ${json(text)}`, text, needsOf(text))),
   notYet("a package's catalog", 'catalog:', needsA, packA({ dependencies: { b: 'catalog:' } })),
@@ -193,6 +193,19 @@ const unbuilt = [
   notYet("a package's overrides", 'pnpm.overrides', needsA, packA({ pnpm: { overrides: { '': '' } } })),
   notYet('a name and a version of 121 bytes', `${longName}@1.0.0`, needs({ [longName]: '^1.0.0' }), pack(longName)),
   notYet('such a name behind an alias', `${longName}@1.0.0`, needs({ b: `npm:${longName}` }), pack(longName)),
+];
+
+const marker = 'node_modules/.pnpm-rs';
+
+const foreigners = [
+  foreign('a file node_modules', { node_modules: 'a file' }),
+  foreign('a link node_modules', { node_modules: { link: 'nowhere' } }),
+  foreign('a link to an empty folder', { empty: null, node_modules: { link: 'empty' } }),
+  foreign('a node_modules without a marker', { 'node_modules/a/index.js': '' }),
+  foreign('a marker with another text', { [marker]: 'pnpm-rs 2\n' }),
+  foreign('a marker with more behind it', { [marker]: 'pnpm-rs 1\n\n' }),
+  foreign('a folder for a marker', { [marker]: null }),
+  foreign('a link to a marker', { marker: 'pnpm-rs 1\n', [marker]: { link: '../marker' } }),
 ];
 
 // The path of the project's folder has this length, where it says so.
@@ -241,8 +254,8 @@ const orders = [
   notYet('overrides before peers', 'pnpm.overrides', needsA, packA({ peerDependencies: { b: '*' }, pnpm: { overrides: { b: '1' } } })),
   notYet('peers before a long name', 'peerDependencies', needs({ [longName]: '*' }), pack(longName, { peerDependencies: { b: '*' } })),
   notYet('a lockfile before packages', 'PROJECT/pnpm-lock.yaml', { ...needsA, 'pnpm-lock.yaml': '' }, {}),
-  noVersion('packages before node_modules', '. needs a@1.0.0', { ...needsA, node_modules: null }, {}),
-  notYet("node_modules before a package's files", 'PROJECT/node_modules', { ...needsA, node_modules: null }, withFiles('node_modules/x')),
+  noVersion('packages before node_modules', '. needs a@1.0.0', { ...needsA, node_modules: 'a file' }, {}),
+  foreign("node_modules before a package's files", { node_modules: 'a file' }, withFiles('node_modules/x')),
   noVersion('a first alias before a second one', '. needs a@^2.0.0', needs({ b: 'file:b', a: '^2.0.0' }), packA()),
   unsupported('the other way round', '. has a@file:a', needs({ b: '^2.0.0', a: 'file:a' }), packA()),
   notYet('an unbuilt kind before a missing version', 'catalog:', needs({ b: '^2.0.0', a: 'catalog:' })),
@@ -275,5 +288,5 @@ const orders = [
 
 export const refusals = [
   usages, texts, inDependencies, inFlags, inFields, inOrder, packageManifests, badTagFiles, versions, kinds, bundledFiles, unbuilt,
-  limits, faults, orders,
+  foreigners, limits, faults, orders,
 ].flat();
