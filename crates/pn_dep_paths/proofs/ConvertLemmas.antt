@@ -1,5 +1,5 @@
 -- Instances as outer pairs are asked of them: their links, one after the other, and where these lead.
-use Rattle.std.proofs.Common.{◌≡◌, ◌<◌, ◌+◌, ◌++◌, ℕ, zero, suc, List, [], ◌∷◌, Bool, true, false, cond, Some, length, get_or, drop, inl, inr, refl, sym, ap, ◌∙◌, subst, arith, append_assoc}
+use Rattle.std.proofs.Common.{◌≡◌, ◌<◌, ◌+◌, ◌++◌, ℕ, zero, suc, List, [], ◌∷◌, Bool, true, false, cond, Some, length, get_or, drop, map, slice_get, inl, inr, refl, sym, ap, ap₂, ◌∙◌, subst, arith, append_assoc}
 use Rattle.std.specs.Prelude.{◌||◌, ◌&&◌, ◌==◌, nat_lt, is_some}
 use Rattle.std.specs.List.{Contains, list_all}
 use Rattle.std.specs.Str.{bytes_eq}
@@ -12,7 +12,7 @@ use Rattle.pn_text.proofs.Members.{in_cons, none_in}
 use Rattle.pn_graph.specs.declared.links.Dep.{Dep}
 use Rattle.pn_graph.specs.declared.links.Package.{Package}
 use Rattle.pn_graph.specs.Graphs.{aliases, has_name}
-use Rattle.pn_graph.specs.Lookups.{dep_at}
+use Rattle.pn_graph.specs.Lookups.{dep_at, package_id}
 use Rattle.pn_instances.specs.declared.goal.Goal.{Goal as AnyGoal}
 use Rattle.pn_instances.specs.declared.goal.Goal.TheVariants.{Project as any_project, Inst as any_instance}
 use Rattle.pn_instances.specs.declared.links.Link.{Link as AnyLink}
@@ -22,7 +22,7 @@ use Rattle.pn_outer.specs.declared.instance.Goal.{Goal}
 use Rattle.pn_outer.specs.declared.instance.Instance.{Instance}
 use Rattle.pn_outer.specs.declared.instance.Link.{Link}
 use Rattle.pn_outer.specs.Instances.{AreInRange, ArePeersThere, DependsOn, IsThere, deps_at, peers_at}
-use Rattle.pn_dep_paths.specs.Converted.{alias_links, is_alias, outer_goal, outer_instances, outer_link, peer_links}
+use Rattle.pn_dep_paths.specs.Converted.{alias_links, is_alias, outer_goal, outer_instances, outer_link, outer_of, peer_links}
 
 eq_turned : (x y : List ℕ) → bytes_eq x y ≡ bytes_eq y x
 eq_turned x y = elim (cases_Bool (bytes_eq x y)) [
@@ -63,6 +63,23 @@ module _ (packages : List Package) (k : PkgIx) (l : AnyLink) (rest : List AnyLin
 
   pub peer_none : is_alias packages k l.name ≡ true → peer_links packages k (l ∷ rest) ≡ [] ++ peer_links packages k rest
   peer_none e = ap (λ (b : Bool). cond b (peer_links packages k rest) (outer_link l ∷ peer_links packages k rest)) e
+
+-- the ids of the packages
+pub ids_of : (packages : List Package) (ks : List PkgIx) (lists : List (List AnyLink)) → length lists ≡ length ks
+    → map (λ (i : Instance). i.id) (outer_instances packages ks lists) ≡ map (λ (k : PkgIx). package_id (slice_get packages k.0)) ks
+ids_of packages [] lists h = refl
+ids_of packages (k ∷ ks) [] h = absurd (omega (arith, h))
+ids_of packages (k ∷ ks) (links ∷ lists) h = ap (λ (l : List (List ℕ)). package_id (slice_get packages k.0) ∷ l) (ids_of packages ks lists (omega (arith, h)))
+
+-- the next instance
+pub next_instance : (packages : List Package) (ks : List PkgIx) (lists : List (List AnyLink)) (i : ℕ) (k : PkgIx) (links : List AnyLink) (one : Instance) (whole old new : List Instance) → i < length ks → i < length lists
+    → k ≡ get_or ks i (record { 0 = 0 }) → links ≡ get_or lists i links → one ≡ outer_of packages k links → new ≡ old ++ one ∷ [] → old ++ outer_instances packages (drop i ks) (drop i lists) ≡ whole
+    → new ++ outer_instances packages (drop (i + 1) ks) (drop (i + 1) lists) ≡ whole
+next_instance packages ks lists i k links one whole old new lt lt' k-is links-is is more h =
+    let rest = outer_instances packages (drop (i + 1) ks) (drop (i + 1) lists) in
+    ap (λ (l : List Instance). l ++ rest) more ∙ append_assoc old (one ∷ []) rest ∙ ap (λ (x : Instance). old ++ x ∷ rest) is
+    ∙ ap (λ (l : List Instance). old ++ l) (ap₂ (λ (x : PkgIx) (y : List AnyLink). outer_of packages x y ∷ rest) k-is links-is
+    ∙ sym (ap₂ (outer_instances packages) (drop_more ks i (record { 0 = 0 }) lt) (drop_more lists i links lt'))) ∙ h
 
 -- ---- where links lead
 
@@ -142,3 +159,12 @@ are_converted packages ks lists roots projects instances h q is =
           subst (λ (m : ℕ). IsThere m projects pair.to) (sym long) (subst (λ (m : ℕ). IsThere (length ks) m pair.to) q
           (peers_there packages (length roots) (length ks) ks lists p.2 i pair (subst (λ (x : List Instance). Contains (peers_at x i) pair) is c)));
     }
+
+pub links_count : (ks : List PkgIx) (lists roots : List (List AnyLink)) → are_instances ks lists roots ≡ true → length lists ≡ length ks
+links_count ks lists roots h =
+    let p = five (nat_lt (length ks) 4294967296) (nat_lt (length roots) 4294967296) (length lists == length ks) (list_all (are_links (length roots) (length ks)) lists) (list_all (are_links (length roots) (length ks)) roots) h in
+    eqb-true (length lists) (length ks) p.1
+
+pub converted_ids : (packages : List Package) (ks : List PkgIx) (lists roots : List (List AnyLink)) (instances : List Instance) → are_instances ks lists roots ≡ true → instances ≡ outer_instances packages ks lists
+    → map (λ (i : Instance). i.id) instances ≡ map (λ (k : PkgIx). package_id (slice_get packages k.0)) ks
+converted_ids packages ks lists roots instances h is = ap (map (λ (i : Instance). i.id)) is ∙ ids_of packages ks lists (links_count ks lists roots h)

@@ -5,3 +5,5 @@ pub mod WrittenLemmas
 pub mod MemberLemmas
 pub mod LawLemmas
 pub mod ConvertLemmas
+pub mod BalancedLemmas
+pub mod PathsLawLemmas

@@ -1,7 +1,9 @@
 // Instances as outer pairs are asked of them.
-ghost use Rattle.std.specs.Prelude.{◌≡◌, ◌<◌, IfOk, length};
+ghost use Rattle.std.specs.Prelude.{◌≡◌, ◌<◌, IfOk, length, true};
 ghost use Rattle.std.specs.List.{All};
+ghost use Rattle.pn_text.specs.Name.{is_name};
 ghost use Rattle.pn_dep_paths.specs.Converted.{alias_links, folders_of, is_alias, outer_goal, outer_instances, outer_link, outer_of, peer_links};
+ghost use Rattle.pn_dep_paths.specs.PathsLaw.{HasNames};
 
 use pn_graph::{At, Plain};
 use pn_instances::Instances;
@@ -16,7 +18,8 @@ pub(crate) fn outer_instances(
     instances: &Instances,
 ) -> Result<Vec<Instance>, Memory>
     requires { All (λ k. k.0 < length plain.now.packages) instances.now.packages }
-    ensures { IfOk result (λ all. all.items ≡ outer_instances plain.now.packages instances.now.packages instances.now.links) }
+    ensures all { IfOk result (λ all. all.items ≡ outer_instances plain.now.packages instances.now.packages instances.now.links) }
+    ensures names { IfOk result (λ all. All HasNames all.items) }
 {
     let packages = instances.packages.as_slice();
     let links = instances.links.as_slice();
@@ -35,9 +38,12 @@ fn outer_of(
     links: &[pn_instances::Link],
 ) -> Result<Instance, Memory>
     requires { at.0 < length plain.now.packages }
-    ensures { IfOk result (λ i. i ≡ outer_of plain.now.packages at links.now) }
+    ensures instance { IfOk result (λ i. i ≡ outer_of plain.now.packages at links.now) }
+    ensures names { IfOk result HasNames }
 {
-    let id = plain.id(at).copy(alloc)?;
+    let id = plain.id(at);
+    let _ = id.as_str(); // it is an id
+    let id = id.copy(alloc)?;
     let mut deps = Vec::new(alloc);
     let mut peers = Vec::new(alloc);
     for link in links {
@@ -64,8 +70,10 @@ fn is_alias(plain: &Plain, at: PkgIx, name: &PkgName) -> bool
 }
 
 fn outer_link(alloc: Global, link: &pn_instances::Link) -> Result<Link, Memory>
-    ensures { IfOk result (λ l. l ≡ outer_link link.now) }
+    ensures link { IfOk result (λ l. l ≡ outer_link link.now) }
+    ensures name { IfOk result (λ l. is_name l.name ≡ true) }
 {
+    let _ = link.name.as_str(); // it is a name
     let name = link.name.copy(alloc)?;
     Ok(Link {
         name,

@@ -3,6 +3,7 @@
 //! The base text of an instance is its package's id, and then a group for each of its outer pairs. What a group holds depends
 //! on where the pair leads: the id, for an instance that leads back; the base text, for another one; the peer's name and the
 //! folder, for a project. `dep_paths` gives the base texts, where the second and later of equal ones have ordinals.
+//! Each is a dep path that begins with its package's id, and no two are the same.
 //!
 //!     let paths = dep_paths(alloc, &plain, &instances)?; // react-dom@18.3.1(react@18.3.1)
 //!
@@ -17,7 +18,7 @@ mod laws;
 mod paths;
 mod relation;
 
-pub use laws::text_law;
+pub use laws::{paths_law, text_law};
 pub use paths::dep_paths;
 
 #[cfg(test)]
