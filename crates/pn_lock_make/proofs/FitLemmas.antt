@@ -116,31 +116,31 @@ each_importer P ranks roots n (q ∷ qs) f =
 
 -- ---- the entries that specifiers name
 
-row_spots : (P : Spot → Type 0) (ranks : List ℕ) (links : List Link) (rows : List Row) → AllByRecursion (λ (r : Row). (c : List ℕ) → catalog_named r.1 ≡ Some c → P (spot c r.0)) rows
+row_spots : (P : Spot → Type 0) (ranks : List ℕ) (links : List Link) (rows : List Row) → AllByRecursion (λ (r : Row). is_some (goal_at r.0 links) ≡ true → (c : List ℕ) → catalog_named r.1 ≡ Some c → P (spot c r.0)) rows
     → AllByRecursion P (spots_in (dependencies_of ranks links rows))
 row_spots P ranks links [] h = tt
-row_spots P ranks links (r ∷ rows) h = elim (goal_at r.0 links) as (λ o. AllByRecursion P (spots_in (dependency_of ranks r o ++ dependencies_of ranks links rows))) [
-  | None ↦ row_spots P ranks links rows h.1
-  | Some to ↦ elim (catalog_named r.1) as (λ o. catalog_named r.1 ≡ o → AllByRecursion P (with_spot r.0 o (spots_in (dependencies_of ranks links rows)))) [
+row_spots P ranks links (r ∷ rows) h = elim (goal_at r.0 links) as (λ o. (is_some o ≡ true → (c : List ℕ) → catalog_named r.1 ≡ Some c → P (spot c r.0)) → AllByRecursion P (spots_in (dependency_of ranks r o ++ dependencies_of ranks links rows))) [
+  | None ↦ λ own. row_spots P ranks links rows h.1
+  | Some to ↦ λ own. elim (catalog_named r.1) as (λ o. catalog_named r.1 ≡ o → AllByRecursion P (with_spot r.0 o (spots_in (dependencies_of ranks links rows)))) [
     | None ↦ λ e. row_spots P ranks links rows h.1
-    | Some c ↦ λ e. (h.0 c e, row_spots P ranks links rows h.1)
+    | Some c ↦ λ e. (own refl c e, row_spots P ranks links rows h.1)
   ] refl
-]
+] h.0
 
 all_spots : (P : Spot → Type 0) (is : List LockImporter) → AllByRecursion (λ (i : LockImporter). AllByRecursion P (project_spots i)) is → AllByRecursion P (spots_of is)
 all_spots P [] h = tt
 all_spots P (i ∷ is) h = joined P (project_spots i) (spots_of is) h.0 (all_spots P is h.1)
 
-abbrev IsNamedRow : (Spot → Type 0) → Row → Type 0
-IsNamedRow P r = (c : List ℕ) → catalog_named r.1 ≡ Some c → P (spot c r.0)
+abbrev IsNamedRow : (Spot → Type 0) → List Link → Row → Type 0
+IsNamedRow P links r = is_some (goal_at r.0 links) ≡ true → (c : List ℕ) → catalog_named r.1 ≡ Some c → P (spot c r.0)
 
-importer_spots : (P : Spot → Type 0) (ranks : List ℕ) (links : List Link) (q : AskedProject) → AllByRecursion (IsNamedRow P) (q.dependencies ++ (q.dev ++ q.optional)) → AllByRecursion P (project_spots (importer_of ranks links q))
+importer_spots : (P : Spot → Type 0) (ranks : List ℕ) (links : List Link) (q : AskedProject) → AllByRecursion (IsNamedRow P links) (q.dependencies ++ (q.dev ++ q.optional)) → AllByRecursion P (project_spots (importer_of ranks links q))
 importer_spots P ranks links q h =
-    let rest = split_right (IsNamedRow P) q.dependencies (q.dev ++ q.optional) h in
+    let rest = split_right (IsNamedRow P links) q.dependencies (q.dev ++ q.optional) h in
     joined P (spots_in (dependencies_of ranks links q.dependencies)) (spots_in (dependencies_of ranks links q.dev) ++ spots_in (dependencies_of ranks links q.optional))
-    (row_spots P ranks links q.dependencies (split_left (IsNamedRow P) q.dependencies (q.dev ++ q.optional) h))
+    (row_spots P ranks links q.dependencies (split_left (IsNamedRow P links) q.dependencies (q.dev ++ q.optional) h))
     (joined P (spots_in (dependencies_of ranks links q.dev)) (spots_in (dependencies_of ranks links q.optional))
-    (row_spots P ranks links q.dev (split_left (IsNamedRow P) q.dev q.optional rest)) (row_spots P ranks links q.optional (split_right (IsNamedRow P) q.dev q.optional rest)))
+    (row_spots P ranks links q.dev (split_left (IsNamedRow P links) q.dev q.optional rest)) (row_spots P ranks links q.optional (split_right (IsNamedRow P links) q.dev q.optional rest)))
 
 named_fit : (a : AskedLists) (p : Plain) (i : Instances) (ranks : List ℕ) → AreResolved a p i.roots
     → AllByRecursion (λ s. fits_at (entries_of (uses_of p.projects p.packages) a.catalogs) a.catalogs s ≡ true) (spots_of (importers_from ranks i.roots 0 a.projects))
@@ -149,9 +149,9 @@ named_fit a p i ranks r =
     let P : Spot → Type 0 = λ s. fits_at (entries_of uses a.catalogs) a.catalogs s ≡ true in
     all_spots P (importers_from ranks i.roots 0 a.projects) (each_importer (λ (i : LockImporter). AllByRecursion P (project_spots i)) ranks i.roots 0 a.projects (λ m q e.
     let same : m + 0 ≡ m = omega arith in
-    importer_spots P ranks (links_at i.roots (m + 0)) q
-    (weaker (λ (r : Row). (c : List ℕ) → catalog_named r.1 ≡ Some c → (is_some (used_at c r.0 uses) ≡ true) × (is_some (asked_at (spot c r.0) a.catalogs) ≡ true)) (IsNamedRow P) (q.dependencies ++ (q.dev ++ q.optional))
-    (λ x h c named. let both = h c named in fits_one uses a.catalogs (spot c x.0) both.0 both.1) (r m q e).entries)))
+    subst (λ (n : ℕ). AllByRecursion P (project_spots (importer_of ranks (links_at i.roots n) q))) (sym same) (importer_spots P ranks (links_at i.roots m) q
+    (weaker (λ (r : Row). is_some (goal_at r.0 (links_at i.roots m)) ≡ true → (c : List ℕ) → catalog_named r.1 ≡ Some c → (is_some (used_at c r.0 uses) ≡ true) × (is_some (asked_at (spot c r.0) a.catalogs) ≡ true)) (IsNamedRow P (links_at i.roots m)) (q.dependencies ++ (q.dev ++ q.optional))
+    (λ x h lead c named. let both = h lead c named in fits_one uses a.catalogs (spot c x.0) both.0 both.1) (r m q e).entries))))
 
 -- ---- specifiers
 

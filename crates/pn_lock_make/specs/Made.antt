@@ -76,16 +76,16 @@ pub record IsMade (a : AskedLists) (p : Plain) (i : Instances) (paths integritie
 abbrev pub AreLed : List Link → List Row → Type 0
 AreLed links rows = AllByRecursion (λ (r : Row). is_some (goal_at r.0 links) ≡ true) rows
 
--- An entry that a specifier names is asked for, and a dependency on a package uses it.
-abbrev pub AreEntered : AskedLists → Plain → List Row → Type 0
-AreEntered a p rows = AllByRecursion (λ (r : Row). (c : List ℕ) → catalog_named r.1 ≡ Some c
+-- Where a row leads somewhere, an entry that its specifier names is asked for, and a dependency on a package uses it.
+abbrev pub AreEntered : AskedLists → Plain → List Link → List Row → Type 0
+AreEntered a p links rows = AllByRecursion (λ (r : Row). is_some (goal_at r.0 links) ≡ true → (c : List ℕ) → catalog_named r.1 ≡ Some c
     → (is_some (used_at c r.0 (uses_of p.projects p.packages)) ≡ true) × (is_some (asked_at (spot c r.0) a.catalogs) ≡ true)) rows
 
 -- What a project asks for was resolved; an optional dependency may lead nowhere.
 pub record IsResolved (a : AskedLists) (p : Plain) (links : List Link) (q : AskedProject) : Type 0 where
   pub dependencies : AreLed links q.dependencies
   pub dev : AreLed links q.dev
-  pub entries : AreEntered a p (q.dependencies ++ (q.dev ++ q.optional))
+  pub entries : AreEntered a p links (q.dependencies ++ (q.dev ++ q.optional))
 
 -- the same of all projects, each with its links
 abbrev pub AreResolved : AskedLists → Plain → List (List Link) → Type 0
